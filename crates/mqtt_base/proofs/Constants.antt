@@ -1,6 +1,6 @@
 -- The numbers of the limits and of the reason codes, computed from what stands in code.
 use Rattle.std.proofs.Common.{◌≡◌, ◌^◌, [], ◌∷◌, refl}
-use Rattle.mqtt_base.specs.declared.limits.TheConstants.{ALIAS_LIMIT, CLIENT_LIMIT, CONNECT_TIME, LAST_NUMBER, LINE_LIMIT, OPEN_LIMIT, PACKET_LIMIT, PUMP_LIMIT, QUEUE_LIMIT, RETAINED_LIMIT, ROW_LIMIT, SESSION_LIMIT, SUBSCRIPTION_LIMIT, VARINT_LIMIT}
+use Rattle.mqtt_base.specs.declared.limits.TheConstants.{ALIAS_LIMIT, CLIENT_LIMIT, CONNECT_TIME, LAST_NUMBER, LINE_LIMIT, LINES_UNASKED, OPEN_LIMIT, PACKET_LIMIT, PUMP_LIMIT, QUEUE_LIMIT, RETAINED_LIMIT, ROW_LIMIT, SESSION_LIMIT, SUBSCRIPTION_LIMIT, VARINT_LIMIT}
 use Rattle.mqtt_base.specs.declared.reason.TheConstants.Reason as reasons
 use Rattle.mqtt_base.specs.Codes as codes
 
@@ -17,8 +17,11 @@ retained = refl
 sessions : SESSION_LIMIT ≡ 1000
 sessions = refl
 
-lines : LINE_LIMIT ≡ 64
+lines : LINE_LIMIT ≡ 1000
 lines = refl
+
+lines_unasked : LINES_UNASKED ≡ 64
+lines_unasked = refl
 
 open_identifiers : OPEN_LIMIT ≡ 20
 open_identifiers = refl

@@ -22,9 +22,9 @@ pub use fault::ReadFault;
 pub use kind::Kind;
 pub use laws::{fewest_bytes, one_spelling, text_is_characters};
 pub use limits::{
-    ALIAS_LIMIT, CLIENT_LIMIT, CONNECT_TIME, LAST_NUMBER, LINE_LIMIT, OPEN_LIMIT, PACKET_LIMIT,
-    PUMP_LIMIT, QUEUE_LIMIT, RETAINED_LIMIT, ROW_LIMIT, SESSION_LIMIT, SUBSCRIPTION_LIMIT,
-    VARINT_LIMIT,
+    ALIAS_LIMIT, CLIENT_LIMIT, CONNECT_TIME, LAST_NUMBER, LINE_LIMIT, LINES_UNASKED, OPEN_LIMIT,
+    PACKET_LIMIT, PUMP_LIMIT, QUEUE_LIMIT, RETAINED_LIMIT, ROW_LIMIT, SESSION_LIMIT,
+    SUBSCRIPTION_LIMIT, VARINT_LIMIT,
 };
 pub use number::{u8_read, u16_push, u16_read, u32_read};
 pub use pair::Pair;

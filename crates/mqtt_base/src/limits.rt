@@ -12,8 +12,11 @@ pub const RETAINED_LIMIT: usize = 1_000;
 /// Sessions, connected or not.
 pub const SESSION_LIMIT: usize = 1_000;
 
-/// Lines linked at one time.
-pub const LINE_LIMIT: usize = 64;
+/// Lines linked at one time, whatever a broker is asked for.
+pub const LINE_LIMIT: usize = 1_000;
+
+/// Lines linked at one time, where no other number is asked for.
+pub const LINES_UNASKED: u32 = 64;
 
 /// Open identifiers of a session's inbound messages of QoS 1 and 2: the Receive Maximum that
 /// CONNACK tells a client (3.2.2.3.3).

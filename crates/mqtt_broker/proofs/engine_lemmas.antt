@@ -6,6 +6,7 @@ pub mod Cuts
 pub mod Serving
 pub mod Pieced
 pub mod Opened
+pub mod Room
 pub mod FirstPackets
 pub mod HeldBytes
 pub mod Lent

@@ -15,4 +15,7 @@ mod opening;
 pub use self::asked::Asked;
 pub use self::engine::Engine;
 pub use self::framers::Framers;
-pub use self::laws::{a_call_over_a_settled_store, streams_may_come_in_any_pieces};
+pub use self::laws::{
+    a_call_over_a_settled_store, no_more_lines_stand_than_are_asked_for,
+    streams_may_come_in_any_pieces,
+};

@@ -6,6 +6,7 @@ use Rattle.mqtt_records.specs.declared.state.session.Columns.{Columns}
 use Rattle.mqtt_rules.specs.step.Deeds.{Act, Accept, Name, Count, At, Leave, Link, Begin, Message, Origin, whose, always, of_session, after_all}
 use Rattle.mqtt_rules.specs.step.Outbound.{at_place}
 use Rattle.mqtt_rules.specs.step.Routing.{next_publication}
+use Rattle.mqtt_rules.specs.declared.step.Capacity.{Capacity}
 use Rattle.mqtt_rules.specs.step.State.{Broker}
 use Rattle.mqtt_rules.specs.step.Step.{can_link}
 
@@ -26,12 +27,12 @@ abbrev pub leaves : ℕ → ℕ → Ending → Act
 leaves birth place ending = of_session birth (λ s. always (at_place place s (λ e. At (whose s) (Leave e ending) ∷ [])))
 
 -- a line is linked and gets the next number, if one may be
-abbrev pub links : Act
-links b = cond (can_link b) (Link (suc b.given) ∷ []) []
+abbrev pub links : Capacity → Act
+links limits b = cond (can_link limits b) (Link (suc b.given) ∷ []) []
 
 -- the number of a line that would be linked
-abbrev pub next_line : Broker → Option ℕ
-next_line b = cond (can_link b) (Some (suc b.given)) None
+abbrev pub next_line : Capacity → Broker → Option ℕ
+next_line limits b = cond (can_link limits b) (Some (suc b.given)) None
 
 abbrev pub after_act : Act → Broker → Broker
 after_act act b = after_all (act b) b

@@ -8,7 +8,7 @@ use Rattle.mqtt_records.specs.state.Contents.{FitContents}
 use Rattle.mqtt_records.specs.state.Records.{FitAll, changed_all}
 use Rattle.mqtt_records.specs.state.Saying.{AllSayable}
 use Rattle.mqtt_keep.specs.by_name.Slimming.{slim_entered}
-use Rattle.mqtt_rules.specs.declared.step.Limits.{Limits}
+use Rattle.mqtt_rules.specs.declared.step.Capacity.{Capacity}
 use Rattle.mqtt_rules.specs.declared.step.Report.{Report}
 use Rattle.mqtt_rules.specs.step.State.{Broker, Env, MemberChoice}
 use Rattle.mqtt_rules.specs.step.Deeds.{Part, Deed, Act, whose, At, after_all, rows_of_all, of_session, always, wires, closing, report}
@@ -18,7 +18,7 @@ use Rattle.mqtt_broker_step.specs.declared.fault.StepFault.TheVariants.{Memory, 
 use Rattle.mqtt_broker_step.specs.Undoing.{with_change, with_records, moment_of}
 
 pub record Stepping : Type 0 where
-  pub limits : Limits
+  pub limits : Capacity
   pub start : Broker  -- when the step began
   pub broker : Broker
   pub rows : List Change  -- what the store is to be told
@@ -110,7 +110,7 @@ abbrev pub with_stamp : Stepping → Stepping
 with_stamp s = record s { broker = with_moment s.rows s.broker; rows = stamped (moment_of s.broker) s.broker.records.moment s.rows }
 
 -- no step is under way
-abbrev pub at_rest : Limits → Broker → Stepping
+abbrev pub at_rest : Capacity → Broker → Stepping
 at_rest limits b = record { limits = limits; start = b; broker = b; rows = []; outputs = []; closed = []; reports = [] }
 
 -- the broker after a step, whose copies that the step's rows put say nothing but their topics, as far as they stand still

@@ -8,7 +8,7 @@ ghost use Rattle.mqtt_broker_step.specs.Undoing.{subscribes_before, subscribes_s
 use crate::step::Step;
 use crate::undo::Undo;
 use mqtt_records::{Change, Counter};
-use mqtt_rules::Limits;
+use mqtt_rules::Capacity;
 
 /// What a change makes the number of the last publication.
 fn publications_set(undo: &Undo) -> Option<u64>
@@ -108,7 +108,7 @@ pub(crate) fn subscribes_before(journal: &[Undo], last: u64) -> u64
 
 impl Step {
     /// The limits. Takes no memory.
-    pub fn limits(&self) -> Limits
+    pub fn limits(&self) -> Capacity
         ensures { result ≡ self.now.limits }
     {
         self.limits

@@ -12,7 +12,7 @@ use crate::tables::Tables;
 use bytes::Bytes;
 use mqtt_base::LAST_NUMBER;
 use mqtt_records::{Change, Counter, Records, Session};
-use mqtt_rules::{Limits, Report};
+use mqtt_rules::{Capacity, Report};
 use std::alloc::{AllocError, Global};
 use std::marker::Model;
 
@@ -20,7 +20,7 @@ use std::marker::Model;
 #[derive(Drop)]
 pub struct Step {
     pub(crate) alloc: Global,
-    pub(crate) limits: Limits,
+    pub(crate) limits: Capacity,
     pub(crate) tables: Tables,
     pub(crate) rows: Vec<Change>,
     pub(crate) outputs: Vec<(u64, Bytes)>,
@@ -128,7 +128,7 @@ impl Step {
     /// A broker at rest with these records and no lines.
     pub fn new(
         alloc: Global,
-        limits: Limits,
+        limits: Capacity,
         records: Records,
         moment: u64,
     ) -> Result<Step, AllocError>

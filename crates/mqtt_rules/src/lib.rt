@@ -13,7 +13,7 @@ pub mod telling;
 pub mod whole;
 
 pub use step::{
-    Limits, Report, alias_stands_behind_identifiers, at_most_twenty_open,
+    Capacity, Limits, Report, alias_stands_behind_identifiers, at_most_twenty_open,
     births_and_places_are_unique, births_are_new, contents_are_lawful,
     copies_are_of_accepted_publications, copies_find_room, copies_keep_their_size,
     counted_numbers_are_apart, counters_never_fall, forms_are_found_by_size, forms_keep_their_size,

@@ -1,6 +1,9 @@
 //! The rules of the broker: what each call does, as definitions (MQTT 5.0, 3 and 4). The types here are
 //! those that the rules speak of and the code shares; `docs/RULES.md` tells the rules in words.
 
+ghost use Rattle.std.specs.Prelude.{◌≡◌};
+ghost use Rattle.mqtt_rules.specs.step.Laws.{sized};
+
 mod content_laws;
 mod copy_laws;
 mod fit_laws;
@@ -37,7 +40,7 @@ pub use self::topic_laws::topics_are_resolved;
 use mqtt_base::{CopyId, Ending, Text};
 use mqtt_flow::Full;
 
-/// The sizes of the tables.
+/// How much a broker is asked to hold, beside its lines: of those 64 are linked at one time where no other number is asked for.
 #[derive(Clone, Copy, Debug, PartialEq, Eq)]
 pub struct Limits {
     /// What becomes of a copy for which a queue has no room.
@@ -48,6 +51,36 @@ pub struct Limits {
     pub sessions: u32,
     /// The most retained messages, from 1 to 1,000.
     pub retained: u32,
+}
+
+impl Limits {
+    /// What a broker holds that is asked for these limits and so many lines.
+    pub fn with_lines(self, lines: u32) -> Capacity
+        ensures { result ≡ sized lines self }
+    {
+        Capacity {
+            full: self.full,
+            queue: self.queue,
+            sessions: self.sessions,
+            retained: self.retained,
+            lines,
+        }
+    }
+}
+
+/// How much a broker holds: its limits, and how many lines are linked at one time.
+#[derive(Clone, Copy, Debug, PartialEq, Eq)]
+pub struct Capacity {
+    /// What becomes of a copy for which a queue has no room.
+    pub full: Full,
+    /// The most copies in a session's queue, from 1 to 1,000.
+    pub queue: u32,
+    /// The most sessions, from 1 to 1,000.
+    pub sessions: u32,
+    /// The most retained messages, from 1 to 1,000.
+    pub retained: u32,
+    /// The most lines linked at one time, from 1; never more than 1,000 are.
+    pub lines: u32,
 }
 
 /// What a call tells beside its packets, in the order in which it came about.

@@ -17,7 +17,7 @@ pub use journal::{
     SessionEvent, Terms, Traffic, WhenFull, WillCause,
 };
 pub use mqtt_link::{Commit, ServeFault};
-pub use mqtt_rules::Limits;
+pub use mqtt_rules::Capacity;
 pub use serving::{SteadyClock, serve, serve_over};
 pub use sqlite::{Start, Unknown};
 pub use turns::{

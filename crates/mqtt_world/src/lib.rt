@@ -9,7 +9,7 @@ pub mod script_laws;
 mod world;
 
 pub use mqtt_keep::Keep;
-pub use mqtt_rules::Limits;
+pub use mqtt_rules::{Capacity, Limits};
 pub use mqtt_script::{Asking, Event};
 pub use mqtt_world_ends::peers::{RunFault, Told};
 pub use scene::each_packet_is_read_as_it_was_sent;

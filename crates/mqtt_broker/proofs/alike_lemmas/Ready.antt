@@ -11,7 +11,7 @@ use Rattle.mqtt_records.specs.lists.Order.{IsAbove, IsAscending, IsBelow, IsTabl
 use Rattle.mqtt_records.specs.state.Session.{birth_of, copy_place}
 use Rattle.mqtt_records.specs.declared.state.records.Records.{Records}
 use Rattle.mqtt_records.specs.declared.state.session.Session.{Session}
-use Rattle.mqtt_rules.specs.declared.step.Limits.{Limits}
+use Rattle.mqtt_rules.specs.declared.step.Capacity.{Capacity}
 use Rattle.mqtt_rules.specs.step.Flight.{IsFlight, identifier_in}
 use Rattle.mqtt_rules.specs.step.Laws.{HasTables, IsCoherent, IsCoherentSession}
 use Rattle.mqtt_rules.specs.step.Numbers.{HasCopiesUpTo}
@@ -130,7 +130,7 @@ module _ (r : Records) (ss : List Session) (h : Each AlikeSessions r.sessions ss
     retained = its.retained;
   }
 
-module _ (limits : Limits) (b : Broker) (ready : IsReady limits b) (ss : List Session) (h : Each AlikeSessions b.records.sessions ss) where
+module _ (limits : Capacity) (b : Broker) (ready : IsReady limits b) (ss : List Session) (h : Each AlikeSessions b.records.sessions ss) where
   abbrev r : Records
   r = b.records
 
@@ -158,7 +158,7 @@ module _ (limits : Limits) (b : Broker) (ready : IsReady limits b) (ss : List Se
   }
 
 -- what is alike to a broker that is ready is ready
-pub ready_alike : (limits : Limits) (some whole : Broker) → AlikeBrokers some whole → IsReady limits whole → IsReady limits some
+pub ready_alike : (limits : Capacity) (some whole : Broker) → AlikeBrokers some whole → IsReady limits whole → IsReady limits some
 ready_alike limits some whole h ready =
     by_broker (λ (x : Broker). IsReady limits x) whole (λ ss k. ready_like limits whole ready ss k) some (broker_back some whole h)
 

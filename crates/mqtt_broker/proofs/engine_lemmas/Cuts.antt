@@ -12,7 +12,7 @@ use Rattle.mqtt_packet.specs.stream.Front.{first_of}
 use Rattle.mqtt_packet.specs.stream.Stream.{Ending, EndsAs, Framing, IsCut, IsStream, Item, fault_at, place_after, short_at}
 use Rattle.mqtt_packet.proofs.stream_lemmas.Cuts.{fault_stays, packet_stays}
 use Rattle.mqtt_packet.proofs.stream_lemmas.Fronts.{first_within}
-use Rattle.mqtt_rules.specs.declared.step.Limits.{Limits}
+use Rattle.mqtt_rules.specs.declared.step.Capacity.{Capacity}
 use Rattle.mqtt_rules.specs.step.Deeds.{closing}
 use Rattle.mqtt_rules.specs.step.Lines.{line_number}
 use Rattle.mqtt_rules.specs.step.Piece.{Front, Pieced, begins_connect, bytes_taken, call_by, call_on, code_of, fed, held_on, is_whole, pieced, stepped_if, taken_on, without_by}
@@ -51,7 +51,7 @@ fault_told env l true code (Some birth) b = rw (nat_eq_equiv.refl l.number) refl
 fault_told env l false code (Some birth) b = rw (nat_eq_equiv.refl l.number) refl
 
 -- a line on which a fault came isn't linked any more
-pub fault_closes : (limits : Limits) (choice : MemberChoice) (now line : ℕ) (is_connect : Bool) (code : ℕ) (b : Broker) (l : Line) → line_at line b ≡ Some l
+pub fault_closes : (limits : Capacity) (choice : MemberChoice) (now line : ℕ) (is_connect : Bool) (code : ℕ) (b : Broker) (l : Line) → line_at line b ≡ Some l
     → is_some (line_at line (stepped limits choice now (BadInput line is_connect code) b)) ≡ false
 fault_closes limits choice now line is_connect code b l there =
     let call = BadInput line is_connect code in
@@ -167,7 +167,7 @@ standing_line line g stands = by (line_at line g.broker) refl stands
 
 -- ---- one piece on a line that stands
 
-module _ (limits : Limits) (choice : MemberChoice) (now line : ℕ) (piece : List ℕ) (g : Giving) (l : Line) (there : line_at line g.broker ≡ Some l) where
+module _ (limits : Capacity) (choice : MemberChoice) (now line : ℕ) (piece : List ℕ) (g : Giving) (l : Line) (there : line_at line g.broker ≡ Some l) where
   abbrev came : Coming
   came = Piece limits choice now piece
 

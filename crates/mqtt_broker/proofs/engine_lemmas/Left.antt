@@ -4,7 +4,7 @@ use Rattle.std.specs.Prelude.{filter_map, find, is_some}
 use Rattle.std.proofs.lemmas.Bool.{cases_Bool}
 use Rattle.mqtt_records.specs.declared.state.change.Change.{Change}
 use Rattle.mqtt_records.specs.lists.Order.{IsBelow, has_row}
-use Rattle.mqtt_rules.specs.declared.step.Limits.{Limits}
+use Rattle.mqtt_rules.specs.declared.step.Capacity.{Capacity}
 use Rattle.mqtt_rules.specs.step.Deeds.{Resume, Close, SetExpiry, DropWill, Subscribe, Unsubscribe, Open, Release, Enter, Mark, Leave, Part, LinePart, Hear, Greet, SetAlias, Went, Deed, Accept, Begin, Name, Count, At, Finish, Keep, Forget, RefuseWill, Link, On, Send, Gone, line_after, on_line, without_place, lines_at, after, after_all, closing, rows_of_all}
 use Rattle.mqtt_rules.specs.step.Lines.{line_number}
 use Rattle.mqtt_rules.specs.step.State.{Line, Broker, MemberChoice, is_of, line_at}
@@ -123,7 +123,7 @@ moment_given (row ∷ rows) b = refl
 
 -- ---- what a step leaves
 
-module _ (limits : Limits) (choice : MemberChoice) (now : ℕ) (call : Call) (b : Broker) (old : IsOld call) where
+module _ (limits : Capacity) (choice : MemberChoice) (now : ℕ) (call : Call) (b : Broker) (old : IsOld call) where
   abbrev its : List Deed
   its = deeds limits choice now call b
 
@@ -149,7 +149,7 @@ pub of_lines_moment : (now : ℕ) (held : List HeldLine) (b : Broker) → IsOfLi
 of_lines_moment now held b h = record { linked = h.linked; given = h.given }
 
 -- and so after a step, without those that it closed
-pub of_lines_step : (limits : Limits) (old : Broker) (now : ℕ) (call : Call) (out : Outcome) (new : Broker) (held : List HeldLine) → IsOld call
+pub of_lines_step : (limits : Capacity) (old : Broker) (now : ℕ) (call : Call) (out : Outcome) (new : Broker) (held : List HeldLine) → IsOld call
     → BrokerStep limits old now call out new → IsOfLines held old → IsOfLines (without_closed out.closed held) new
 of_lines_step limits old now call out new held is s h =
     let closed = (told limits s.choice now call old).closed in

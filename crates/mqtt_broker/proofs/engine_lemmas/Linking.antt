@@ -2,17 +2,17 @@
 use Rattle.std.proofs.Common.{◌≡◌, ℕ, suc, ◌<◌, Bool, true, false, cond, List, [], ◌∷◌, ◌++◌, length, map, Some, None, nat_lt, refl, sym, ap, subst, ◌∙◌, arith}
 use Rattle.std.proofs.lemmas.List.{length-map}
 use Rattle.std.specs.Prelude.{◌&&◌}
-use Rattle.std.proofs.lemmas.Bool.{ltb-true}
 use Rattle.mqtt_base.specs.declared.limits.TheConstants.{LINE_LIMIT, LAST_NUMBER}
 use Rattle.mqtt_records.specs.lists.Order.{IsBelow, put_row}
 use Rattle.mqtt_records.proofs.lists_lemmas.LookUps.{put_row-last}
-use Rattle.mqtt_rules.specs.declared.step.Limits.{Limits}
+use Rattle.mqtt_rules.specs.declared.step.Capacity.{Capacity}
 use Rattle.mqtt_rules.specs.step.Deeds.{Link, fresh_line}
 use Rattle.mqtt_rules.specs.step.Lines.{line_number}
 use Rattle.mqtt_rules.specs.step.State.{Line, Broker}
-use Rattle.mqtt_rules.specs.step.Step.{NewLine, Outcome, BrokerStep, at_moment, can_link, done}
+use Rattle.mqtt_rules.specs.step.Step.{NewLine, Outcome, BrokerStep, at_moment, can_link, done, takes_line}
 use Rattle.mqtt_broker.specs.engine.Framers.{HeldLine, begun, line_of}
 use Rattle.mqtt_broker_step.specs.Doing.{next_line}
+use Rattle.mqtt_broker_step.proofs.Links.{few_lines}
 use Rattle.mqtt_broker.specs.engine.Serving.{IsOfLines, with_linked}
 
 below_last : (n : ℕ) (held : List HeldLine) → IsBelow line_of n held → IsBelow line_of (suc n) (held ++ begun n ∷ [])
@@ -38,10 +38,10 @@ linked_by true now b held h = record {
 }
 
 -- when a line is linked the lines that hold bytes are those that are linked
-pub of_lines_link : (limits : Limits) (old : Broker) (now : ℕ) (out : Outcome) (new : Broker) (held : List HeldLine)
-    → BrokerStep limits old now NewLine out new → IsOfLines held old → IsOfLines (with_linked (next_line old) held) new
+pub of_lines_link : (limits : Capacity) (old : Broker) (now : ℕ) (out : Outcome) (new : Broker) (held : List HeldLine)
+    → BrokerStep limits old now NewLine out new → IsOfLines held old → IsOfLines (with_linked (next_line limits old) held) new
 of_lines_link limits old now out new held s h =
-    subst (λ (b : Broker). IsOfLines (with_linked (next_line old) held) b) (sym s.new_is) (linked_by (can_link old) now old held h)
+    subst (λ (b : Broker). IsOfLines (with_linked (next_line limits old) held) b) (sym s.new_is) (linked_by (can_link limits old) now old held h)
 
 both_true : (x y : Bool) → (x && y) ≡ true → x ≡ true
 both_true true y h = refl
@@ -56,10 +56,10 @@ number_by true n k e = cc
 number_by false n k e = absurd cc
 
 -- it is put behind all others
-pub linked_row : (n : ℕ) (b : Broker) (held : List HeldLine) → next_line b ≡ Some n → IsOfLines held b → put_row line_of LINE_LIMIT (begun n) held ≡ held ++ begun n ∷ []
-linked_row n b held next h =
-    let can : can_link b ≡ true = room_by (can_link b) (suc b.given) n next in
-    let is : n ≡ suc b.given = number_by (can_link b) (suc b.given) n next in
-    let few : length b.lines < LINE_LIMIT = ltb-true (length b.lines) LINE_LIMIT (both_true (nat_lt (length b.lines) LINE_LIMIT) (nat_lt b.given LAST_NUMBER) can) in
+pub linked_row : (limits : Capacity) (n : ℕ) (b : Broker) (held : List HeldLine) → next_line limits b ≡ Some n → IsOfLines held b → put_row line_of LINE_LIMIT (begun n) held ≡ held ++ begun n ∷ []
+linked_row limits n b held next h =
+    let can : can_link limits b ≡ true = room_by (can_link limits b) (suc b.given) n next in
+    let is : n ≡ suc b.given = number_by (can_link limits b) (suc b.given) n next in
+    let few : length b.lines < LINE_LIMIT = few_lines limits (length b.lines) (both_true (takes_line limits (length b.lines)) (nat_lt b.given LAST_NUMBER) can) in
     let same : length held ≡ length b.lines = sym (length-map held line_of) ∙ ap length h.linked ∙ length-map b.lines line_number in
     put_row-last line_of LINE_LIMIT (begun n) held (subst (λ (k : ℕ). IsBelow line_of k held) (sym is) h.given) (omega (arith, few, same))

@@ -7,6 +7,7 @@ use Rattle.mqtt_records.specs.lists.Order.{row_at}
 use Rattle.mqtt_records.specs.state.Session.{birth_of}
 use Rattle.mqtt_records.specs.declared.state.session.Session.{Session}
 use Rattle.mqtt_rules.specs.step.Lines.{session_on}
+use Rattle.mqtt_rules.specs.declared.step.Capacity.{Capacity}
 use Rattle.mqtt_rules.specs.step.State.{Broker, session_named}
 use Rattle.mqtt_rules.specs.step.Step.{can_link}
 use Rattle.mqtt_rules.specs.filling.Filling.{filled, filled_session}
@@ -67,5 +68,5 @@ pub publications_same : (fillings : Fillings) (some whole : Broker) → filled f
 publications_same fillings some whole is = ap (λ (b : Broker). b.records.publications) is
 
 -- and links a further line or not
-pub links_same : (fillings : Fillings) (some whole : Broker) → filled fillings some ≡ whole → can_link some ≡ can_link whole
-links_same fillings some whole is = ap can_link is
+pub links_same : (limits : Capacity) (fillings : Fillings) (some whole : Broker) → filled fillings some ≡ whole → can_link limits some ≡ can_link limits whole
+links_same limits fillings some whole is = ap (can_link limits) is

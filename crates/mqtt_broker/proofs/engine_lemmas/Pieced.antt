@@ -7,7 +7,7 @@ use Rattle.mqtt_packet.specs.stream.Stream.{Framing, empty}
 use Rattle.mqtt_keep.specs.declared.keeping.keep.Keep.{Ghosts}
 use Rattle.mqtt_records.specs.declared.state.records.Records.{Records}
 use Rattle.mqtt_records.specs.lists.Order.{IsBelow, has_row}
-use Rattle.mqtt_rules.specs.declared.step.Limits.{Limits}
+use Rattle.mqtt_rules.specs.declared.step.Capacity.{Capacity}
 use Rattle.mqtt_rules.specs.step.Piece.{Front, begins_connect, bytes_taken, call_by, call_on, code_of, fed, first_call, held_on, is_spent_if, is_whole, pieced, stepped_if, taken_on, told_if, without_first}
 use Rattle.mqtt_rules.specs.step.State.{Broker, Line, MemberChoice, line_at, stored}
 use Rattle.mqtt_rules.specs.step.Step.{BadInput, Call, Input, at_moment, bytes_out, nothing_told, Outcome as Told}
@@ -30,7 +30,7 @@ use Rattle.mqtt_broker.proofs.engine_lemmas.Unlinked.{IsOld}
 -- ---- the step, whatever is asked
 
 -- some choice of the members leads to the state, and this is told of it, but for what was taken and what is to come
-pub record IsDone (limits : Limits) (old : Broker) (now : ℕ) (call : Option Call) (out : Outcome) (new : Broker) : Type 0 where
+pub record IsDone (limits : Capacity) (old : Broker) (now : ℕ) (call : Option Call) (out : Outcome) (new : Broker) : Type 0 where
   pub choice : MemberChoice
   pub unspent : is_spent_if limits choice now call old ≡ false
   pub new_is : new ≡ stepped_if limits choice now call old
@@ -39,14 +39,14 @@ pub record IsDone (limits : Limits) (old : Broker) (now : ℕ) (call : Option Ca
   pub reports : out.reports.items ≡ (told_if limits choice now call old).reports
 
 -- for a broker with the same lines there is such a step
-pub record IsDoneForLines (limits : Limits) (old : Broker) (now : ℕ) (call : Option Call) (out : Outcome) (new : Broker) : Type 0 where
+pub record IsDoneForLines (limits : Capacity) (old : Broker) (now : ℕ) (call : Option Call) (out : Outcome) (new : Broker) : Type 0 where
   pub before : Broker
   pub after : Broker
   pub begins : KeepsLines old before
   pub done : IsDone limits before now call out after
   pub ends : KeepsLines after new
 
-done_by : (limits : Limits) (old : Broker) (now : ℕ) (call : Call) (out : Outcome) (new : Broker) → IsAnswered limits old now call out new → IsDone limits old now (Some call) out new
+done_by : (limits : Capacity) (old : Broker) (now : ℕ) (call : Call) (out : Outcome) (new : Broker) → IsAnswered limits old now call out new → IsDone limits old now (Some call) out new
 done_by limits old now call out new h =
     let s = h.step in
     let tells = h.tells in record {
@@ -485,6 +485,6 @@ module _ {K : Type 0} (g : Ghosts K) (now line : ℕ) (piece : List ℕ) (old : 
 -- ---- what a crash leaves
 
 -- what was stored before is what whatever is asked may leave
-pub left_before : (limits : Limits) (b : Broker) (now : ℕ) (call : Option Call) (left : Records) → left ≡ stored b → IsLeftByAny limits b now call left
+pub left_before : (limits : Capacity) (b : Broker) (now : ℕ) (call : Option Call) (left : Records) → left ≡ stored b → IsLeftByAny limits b now call left
 left_before limits b now None left is = is
 left_before limits b now (Some call) left is = inl is

@@ -13,7 +13,7 @@ use Rattle.mqtt_records.specs.declared.state.records.Records.{Records}
 use Rattle.mqtt_records.specs.declared.state.session.Columns.{Columns}
 use Rattle.mqtt_records.specs.declared.state.session.Session.{Session}
 use Rattle.mqtt_records.specs.lists.Order.{change_row, has_row, put_row}
-use Rattle.mqtt_rules.specs.declared.step.Limits.{Limits}
+use Rattle.mqtt_rules.specs.declared.step.Capacity.{Capacity}
 use Rattle.mqtt_rules.specs.step.Laws.{AreWithin, IsCoherent}
 use Rattle.mqtt_rules.specs.step.Numbers.{IsTimed}
 use Rattle.mqtt_rules.specs.step.State.{Broker, MemberChoice, stored}
@@ -70,14 +70,14 @@ hold_all [] r fit h = h
 hold_all (change ∷ changes) r fit h = hold_all changes (changed change r) fit.1 (hold_changed change r fit.0 h)
 
 -- a step keeps all numbers of records within their counters
-pub step_bounds : (limits : Limits) (choice : MemberChoice) (now : ℕ) (call : Call) (b : Broker) → AreWithin limits → IsCoherent (stored b) → IsTimed b → IsNumber b.now → is_step_spent limits choice now call b ≡ false
+pub step_bounds : (limits : Capacity) (choice : MemberChoice) (now : ℕ) (call : Call) (b : Broker) → AreWithin limits → IsCoherent (stored b) → IsTimed b → IsNumber b.now → is_step_spent limits choice now call b ≡ false
     → HaveBounds (stored b) → HaveBounds (stored (stepped limits choice now call b))
 step_bounds limits choice now call b within coherent timed last unspent h =
     let rows = rows_written (deeds limits choice now call b) (at_moment now b) in
     subst HaveBounds (rows_store (deeds limits choice now call b) (at_moment now b)) (hold_all rows (stored b) (step_fits limits choice now call b within coherent timed last unspent) h)
 
 -- so does an opening
-pub opening_bounds : (limits : Limits) (choice : MemberChoice) (now : ℕ) (r : Records) → AreWithin limits → IsCoherent r → is_opening_spent limits choice now r ≡ false
+pub opening_bounds : (limits : Capacity) (choice : MemberChoice) (now : ℕ) (r : Records) → AreWithin limits → IsCoherent r → is_opening_spent limits choice now r ≡ false
     → HaveBounds r → HaveBounds (stored (opened limits choice now r))
 opening_bounds limits choice now r within coherent unspent h =
     let rows = rows_written (opening_deeds limits choice now r) (unopened now r) in

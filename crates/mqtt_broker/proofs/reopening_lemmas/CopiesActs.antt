@@ -23,7 +23,7 @@ use Rattle.mqtt_records.specs.lists.Distinct.{AllDiffer}
 use Rattle.mqtt_records.specs.lists.Order.{row_at}
 use Rattle.mqtt_topic.specs.names.Filters.{begins_share}
 use Rattle.mqtt_topic.specs.names.Names.{is_empty}
-use Rattle.mqtt_rules.specs.declared.step.Limits.{Limits}
+use Rattle.mqtt_rules.specs.declared.step.Capacity.{Capacity}
 use Rattle.mqtt_rules.specs.step.Deeds.{whose, Message, Origin, Resume, Close, SetExpiry, DropWill, Subscribe, Unsubscribe, Open, Release, Enter, Mark, Leave, Deed, Accept, Begin, Name, Count, At, Finish, Keep, Forget, RefuseWill, Link, On, Send, Gone, after, after_all, always, rows_of_all, series}
 use Rattle.mqtt_rules.specs.step.Fitting.{has_form, offer_copy}
 use Rattle.mqtt_rules.specs.step.Laws.{IsAmong, IsOrdered}
@@ -355,7 +355,7 @@ moment_has [] b h = h
 moment_has (row ∷ rows) b h = record { ordered = record { sessions = h.ordered.sessions; each = h.ordered.each; retained = h.ordered.retained }; sessions = h.sessions; retained = h.retained; differ = h.differ }
 
 -- behind a step all copies in a queue differ
-pub step_identities : (limits : Limits) (choice : MemberChoice) (now : ℕ) (call : Call) (b : Broker) → HaveIdentities (stored b) → HaveIdentities (stored (stepped limits choice now call b))
+pub step_identities : (limits : Capacity) (choice : MemberChoice) (now : ℕ) (call : Call) (b : Broker) → HaveIdentities (stored b) → HaveIdentities (stored (stepped limits choice now call b))
 step_identities limits choice now call b h =
     let c = at_moment now b in
     let env = env_of limits choice b in
@@ -363,7 +363,7 @@ step_identities limits choice now call b h =
     moment_has (rows_of_all ds c.records) (after_all ds c) (leads_all env HaveIdentities Good (keeping env) call c h).1
 
 -- so they do behind an opening
-pub opening_identities : (limits : Limits) (choice : MemberChoice) (now : ℕ) (r : Records) → HaveIdentities r → HaveIdentities (stored (opened limits choice now r))
+pub opening_identities : (limits : Capacity) (choice : MemberChoice) (now : ℕ) (r : Records) → HaveIdentities r → HaveIdentities (stored (opened limits choice now r))
 opening_identities limits choice now r h =
     let b = unopened now r in
     let env = env_of limits choice b in

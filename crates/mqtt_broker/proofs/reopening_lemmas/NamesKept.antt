@@ -16,7 +16,7 @@ use Rattle.mqtt_records.specs.declared.state.change.Change.{Change}
 use Rattle.mqtt_records.specs.declared.state.records.Records.{Records}
 use Rattle.mqtt_records.specs.declared.state.session.Session.{Session}
 use Rattle.mqtt_records.specs.state.Session.{birth_of, auto}
-use Rattle.mqtt_rules.specs.declared.step.Limits.{Limits}
+use Rattle.mqtt_rules.specs.declared.step.Capacity.{Capacity}
 use Rattle.mqtt_rules.specs.step.Connect.{has_bad_topic, largest_of, least_packet_size, refusal}
 use Rattle.mqtt_rules.specs.step.Deeds.{Whose, Part, Resume, Close, SetExpiry, DropWill, Subscribe, Unsubscribe, Open, Release, Enter, Mark, Leave, Deed, Accept, Begin, Name, Count, At, Finish, Keep, Forget, RefuseWill, Link, On, Send, Gone, after, after_all, rows_of_all}
 use Rattle.mqtt_rules.specs.step.State.{Broker, Env, MemberChoice, session_named, stored}
@@ -257,7 +257,7 @@ moment_named [] b h = h
 moment_named (row ∷ rows) b h = record { assigned = h.assigned; short = h.short }
 
 -- behind a step each session has a name of its own
-pub step_names : (limits : Limits) (choice : MemberChoice) (now : ℕ) (call : Call) (b : Broker) → AreNamed (stored b) → AreNamed (stored (stepped limits choice now call b))
+pub step_names : (limits : Capacity) (choice : MemberChoice) (now : ℕ) (call : Call) (b : Broker) → AreNamed (stored b) → AreNamed (stored (stepped limits choice now call b))
 step_names limits choice now call b h =
     let c = at_moment now b in
     let env = env_of limits choice b in
@@ -265,7 +265,7 @@ step_names limits choice now call b h =
     moment_named (rows_of_all ds c.records) (after_all ds c) (leads_call env named Keeps Brings (the_law env) call c h (call_of_named call c)).1
 
 -- so it has behind an opening
-pub opening_names : (limits : Limits) (choice : MemberChoice) (now : ℕ) (r : Records) → AreNamed r → AreNamed (stored (opened limits choice now r))
+pub opening_names : (limits : Capacity) (choice : MemberChoice) (now : ℕ) (r : Records) → AreNamed r → AreNamed (stored (opened limits choice now r))
 opening_names limits choice now r h =
     let b = unopened now r in
     let env = env_of limits choice b in

@@ -29,7 +29,7 @@ use Rattle.mqtt_records.specs.state.Session.{birth_of, copy_place, in_phase, wit
 use Rattle.mqtt_records.specs.lists.Distinct.{AllDiffer}
 use Rattle.mqtt_records.specs.lists.Order.{IsAscending, change_row, remove_row, row_at}
 use Rattle.mqtt_records.proofs.lists_lemmas.LookUps.{row_at-here, row_at-remove_row}
-use Rattle.mqtt_rules.specs.declared.step.Limits.{Limits}
+use Rattle.mqtt_rules.specs.declared.step.Capacity.{Capacity}
 use Rattle.mqtt_rules.specs.step.Deeds.{Whose, whose, FromClient, Part, Resume, Close, SetExpiry, DropWill, Subscribe, Unsubscribe, Open, Release, Enter, Mark, Leave, Went, Deed, Accept, Begin, Name, Count, At, Finish, Keep, Forget, RefuseWill, Link, On, Send, Gone, after, after_all, new_entry, part_rows, part_rows_of, rows_of, rows_of_all}
 use Rattle.mqtt_rules.specs.step.Fitting.{fitted, size_at, sized}
 use Rattle.mqtt_rules.specs.step.Inbound.{pump_deeds}
@@ -563,7 +563,7 @@ moment_phased [] b h = h
 moment_phased (row ∷ rows) b h = h
 
 -- behind a step phases fit their copies, and orders differ
-pub step_phases : (limits : Limits) (choice : MemberChoice) (now : ℕ) (call : Call) (b : Broker) → IsOrdered (stored b) → HavePhases (stored b) → HavePhases (stored (stepped limits choice now call b))
+pub step_phases : (limits : Capacity) (choice : MemberChoice) (now : ℕ) (call : Call) (b : Broker) → IsOrdered (stored b) → HavePhases (stored b) → HavePhases (stored (stepped limits choice now call b))
 step_phases limits choice now call b ordered h =
     let c = at_moment now b in
     let env = env_of limits choice b in
@@ -571,7 +571,7 @@ step_phases limits choice now call b ordered h =
     moment_phased (rows_of_all ds c.records) (after_all ds c) (leads_call env anyone Kept (λ d x. ⊤) (the_law env) call c (ordered, h) (call_of_anyone call c)).1.1
 
 -- so it is behind an opening
-pub opening_phases : (limits : Limits) (choice : MemberChoice) (now : ℕ) (r : Records) → IsOrdered r → HavePhases r → HavePhases (stored (opened limits choice now r))
+pub opening_phases : (limits : Capacity) (choice : MemberChoice) (now : ℕ) (r : Records) → IsOrdered r → HavePhases r → HavePhases (stored (opened limits choice now r))
 opening_phases limits choice now r ordered h =
     let b = unopened now r in
     let env = env_of limits choice b in

@@ -15,7 +15,7 @@ use Rattle.mqtt_records.specs.state.Session.{birth_of, columns_of, place_of, fre
 use Rattle.mqtt_records.specs.lists.Distinct.{AllDiffer}
 use Rattle.mqtt_records.specs.lists.Order.{IsAscending, change_row, has_row, put_row}
 use Rattle.mqtt_records.proofs.lists_lemmas.OrderLemmas.{put-ascending, filter-ascending}
-use Rattle.mqtt_rules.specs.declared.step.Limits.{Limits}
+use Rattle.mqtt_rules.specs.declared.step.Capacity.{Capacity}
 use Rattle.mqtt_rules.specs.step.Deeds.{Whose, Part, Resume, Close, SetExpiry, DropWill, Subscribe, Unsubscribe, Open, Release, Enter, Mark, Leave, Deed, Accept, Begin, Name, Count, At, Finish, Keep, Forget, RefuseWill, Link, On, Send, Gone, after, after_all, new_entry, part_rows, part_rows_of, rows_of, rows_of_all, will_row}
 use Rattle.mqtt_rules.specs.step.Laws.{IsAmong}
 use Rattle.mqtt_rules.specs.step.State.{Broker, Env, MemberChoice, session_at, stored}
@@ -295,14 +295,14 @@ places_done : (ds : List Deed) (b : Broker) → Keeps (after_all ds b) → HaveP
 places_done ds b h = moment_apart (rows_of_all ds b.records) (after_all ds b) h
 
 -- behind a step no two retained messages have one place
-pub step_places : (limits : Limits) (choice : MemberChoice) (now : ℕ) (call : Call) (b : Broker) → HavePlacesApart (stored b) → HavePlacesApart (stored (stepped limits choice now call b))
+pub step_places : (limits : Capacity) (choice : MemberChoice) (now : ℕ) (call : Call) (b : Broker) → HavePlacesApart (stored b) → HavePlacesApart (stored (stepped limits choice now call b))
 step_places limits choice now call b h =
     let c = at_moment now b in
     let env = env_of limits choice b in
     places_done (deeds limits choice now call b) c ((leads_deeds env Keeps Brings (places_law env) places_mark call c h).1)
 
 -- so it is behind an opening
-pub opening_places : (limits : Limits) (choice : MemberChoice) (now : ℕ) (r : Records) → HavePlacesApart r → HavePlacesApart (stored (opened limits choice now r))
+pub opening_places : (limits : Capacity) (choice : MemberChoice) (now : ℕ) (r : Records) → HavePlacesApart r → HavePlacesApart (stored (opened limits choice now r))
 opening_places limits choice now r h =
     let b = unopened now r in
     let env = env_of limits choice b in

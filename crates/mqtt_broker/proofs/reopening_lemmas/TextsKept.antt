@@ -14,7 +14,7 @@ use Rattle.mqtt_records.specs.declared.state.session.Session.{Session}
 use Rattle.mqtt_records.specs.declared.state.subscription.Subscription.{Subscription}
 use Rattle.mqtt_topic.specs.names.Filters.{begins_share, group_of, is_filter, is_shared_filter}
 use Rattle.mqtt_topic.specs.names.Names.{is_empty}
-use Rattle.mqtt_rules.specs.declared.step.Limits.{Limits}
+use Rattle.mqtt_rules.specs.declared.step.Capacity.{Capacity}
 use Rattle.mqtt_rules.specs.step.Contents.{TakesLawful}
 use Rattle.mqtt_rules.specs.step.Deeds.{Whose, Part, Resume, Close, SetExpiry, DropWill, Subscribe, Unsubscribe, Open, Release, Enter, Mark, Leave, Deed, Accept, Begin, Name, Count, At, Finish, Keep, Forget, RefuseWill, Link, On, Send, Gone, after, after_all, new_entry, rows_of_all}
 use Rattle.mqtt_rules.specs.step.State.{Broker, MemberChoice, stored}
@@ -163,7 +163,7 @@ moment_texts [] b h = h
 moment_texts (row ∷ rows) b h = h
 
 -- behind a step all texts are such as may be stored
-pub step_texts : (limits : Limits) (choice : MemberChoice) (now : ℕ) (call : Call) (b : Broker) → TakesLawful call → HaveIdentities (stored b) → HaveTexts (stored b) → HaveTexts (stored (stepped limits choice now call b))
+pub step_texts : (limits : Capacity) (choice : MemberChoice) (now : ℕ) (call : Call) (b : Broker) → TakesLawful call → HaveIdentities (stored b) → HaveTexts (stored b) → HaveTexts (stored (stepped limits choice now call b))
 step_texts limits choice now call b taken known h =
     let c = at_moment now b in
     let env = env_of limits choice b in
@@ -171,7 +171,7 @@ step_texts limits choice now call b taken known h =
     moment_texts (rows_of_all ds c.records) (after_all ds c) (texts_all ds c (from_good ds c (from_call env call c taken)) (call_good env call c known) h)
 
 -- so they are behind an opening
-pub opening_texts : (limits : Limits) (choice : MemberChoice) (now : ℕ) (r : Records) → HaveIdentities r → HaveTexts r → HaveTexts (stored (opened limits choice now r))
+pub opening_texts : (limits : Capacity) (choice : MemberChoice) (now : ℕ) (r : Records) → HaveIdentities r → HaveTexts r → HaveTexts (stored (opened limits choice now r))
 opening_texts limits choice now r known h =
     let b = unopened now r in
     let env = env_of limits choice b in

@@ -14,7 +14,7 @@ use Rattle.mqtt_records.specs.declared.state.session.Session.{Session}
 use Rattle.mqtt_records.specs.declared.state.subscription.Subscription.{Subscription}
 use Rattle.mqtt_records.specs.state.Records.{changed_all, IsNumber}
 use Rattle.mqtt_records.specs.state.Session.{birth_of, place_of, copy_place, without_filter, in_phase}
-use Rattle.mqtt_rules.specs.declared.step.Limits.{Limits}
+use Rattle.mqtt_rules.specs.declared.step.Capacity.{Capacity}
 use Rattle.mqtt_rules.specs.step.Deeds.{Whose, Part, Resume, Close, SetExpiry, DropWill, Subscribe, Unsubscribe, Open, Release, Enter, Mark, Leave, Deed, Accept, Begin, Name, Count, At, Finish, Keep, Forget, RefuseWill, Link, On, Send, Gone, after, after_all, rows_of_all, new_entry}
 use Rattle.mqtt_rules.specs.step.Numbers.{IsTimed}
 use Rattle.mqtt_rules.specs.step.Routing.{place_of_kept, retained_of}
@@ -232,7 +232,7 @@ timely_done : (ds : List Deed) (b : Broker) → AreTimely b.records.moment b.rec
 timely_done ds b h g = by_rows (rows_of_all ds b.records) b.records (after_all ds b) (stored_after_all ds b) h g
 
 -- behind a step nothing is stored as of a later moment
-pub step_timely : (limits : Limits) (choice : MemberChoice) (now : ℕ) (call : Call) (b : Broker) → IsTimed b → AreTimely (stored b).moment (stored b)
+pub step_timely : (limits : Capacity) (choice : MemberChoice) (now : ℕ) (call : Call) (b : Broker) → IsTimed b → AreTimely (stored b).moment (stored b)
     → AreTimely (stored (stepped limits choice now call b)).moment (stored (stepped limits choice now call b))
 step_timely limits choice now call b timed h =
     let c = at_moment now b in
@@ -242,7 +242,7 @@ step_timely limits choice now call b timed h =
     ((leads_deeds env Timely Brings (timely_law env) timely_mark call c (timely_later b.records.moment c.now b.records (omega (arith, timed, more)) h)).1)
 
 -- nor is it behind an opening
-pub opening_timely : (limits : Limits) (choice : MemberChoice) (now : ℕ) (r : Records) → IsNumber r.moment → AreTimely r.moment r
+pub opening_timely : (limits : Capacity) (choice : MemberChoice) (now : ℕ) (r : Records) → IsNumber r.moment → AreTimely r.moment r
     → AreTimely (stored (opened limits choice now r)).moment (stored (opened limits choice now r))
 opening_timely limits choice now r last h =
     let b = unopened now r in

@@ -3,7 +3,7 @@ use Rattle.std.proofs.Common.{◌≡◌, ℕ, false, List, [], ◌∷◌, arith}
 use Rattle.std.specs.List.{AllByRecursion}
 use Rattle.mqtt_records.specs.state.Records.{IsNumber, nothing}
 use Rattle.mqtt_records.specs.declared.state.records.Records.{Records}
-use Rattle.mqtt_rules.specs.declared.step.Limits.{Limits}
+use Rattle.mqtt_rules.specs.declared.step.Capacity.{Capacity}
 use Rattle.mqtt_rules.specs.step.Contents.{AreContentsOf, HasTopics, TakesLawful, of_packets}
 use Rattle.mqtt_rules.specs.step.Laws.{AreWithin, Event, Asked, Reopened, after_event, after_events, blank}
 use Rattle.mqtt_rules.specs.step.Numbers.{IsTimed}
@@ -41,7 +41,7 @@ pub record IsWriting (b : Broker) : Type 0 where
 packet_contents : (b : Broker) → IsWriting b → AreContentsOf of_packets b
 packet_contents b h = record { stored = h.written.contents; lines = h.topics }
 
-step_facts : (limits : Limits) (choice : MemberChoice) (now : ℕ) (call : Call) (b : Broker) → AreWithin limits → TakesLawful call → is_step_spent limits choice now call b ≡ false → IsWriting b
+step_facts : (limits : Capacity) (choice : MemberChoice) (now : ℕ) (call : Call) (b : Broker) → AreWithin limits → TakesLawful call → is_step_spent limits choice now call b ≡ false → IsWriting b
     → Facts (stored (stepped limits choice now call b))
 step_facts limits choice now call b within taken unspent h =
     let f = facts_of (stored b) h.written in
@@ -60,7 +60,7 @@ step_facts limits choice now call b within taken unspent h =
       shared = step_shared limits choice now call b f.shared (lawful_accepted (stored b) h.written.lawful);
     }
 
-opening_facts : (limits : Limits) (choice : MemberChoice) (now : ℕ) (r : Records) → AreWithin limits → is_opening_spent limits choice now r ≡ false → IsWritten r → Facts (stored (opened limits choice now r))
+opening_facts : (limits : Capacity) (choice : MemberChoice) (now : ℕ) (r : Records) → AreWithin limits → is_opening_spent limits choice now r ≡ false → IsWritten r → Facts (stored (opened limits choice now r))
 opening_facts limits choice now r within unspent w =
     let f = facts_of r w in
     record {
@@ -80,7 +80,7 @@ opening_facts limits choice now r within unspent w =
 
 -- ---- steps and openings
 
-step_writing : (limits : Limits) (choice : MemberChoice) (now : ℕ) (call : Call) (b : Broker) → AreWithin limits → TakesLawful call → is_step_spent limits choice now call b ≡ false → IsWriting b
+step_writing : (limits : Capacity) (choice : MemberChoice) (now : ℕ) (call : Call) (b : Broker) → AreWithin limits → TakesLawful call → is_step_spent limits choice now call b ≡ false → IsWriting b
     → IsWriting (stepped limits choice now call b)
 step_writing limits choice now call b within taken unspent h = record {
   written = written (stored (stepped limits choice now call b)) (step_facts limits choice now call b within taken unspent h);
@@ -89,7 +89,7 @@ step_writing limits choice now call b within taken unspent h = record {
   last = step_last limits choice now call b h.last;
 }
 
-opening_writing : (limits : Limits) (choice : MemberChoice) (now : ℕ) (r : Records) → AreWithin limits → is_opening_spent limits choice now r ≡ false → IsWritten r → IsWriting (opened limits choice now r)
+opening_writing : (limits : Capacity) (choice : MemberChoice) (now : ℕ) (r : Records) → AreWithin limits → is_opening_spent limits choice now r ≡ false → IsWritten r → IsWriting (opened limits choice now r)
 opening_writing limits choice now r within unspent w = record {
   written = written (stored (opened limits choice now r)) (opening_facts limits choice now r within unspent w);
   topics = (opening_contents of_packets packets_are limits choice now r w.contents).lines;
@@ -98,13 +98,13 @@ opening_writing limits choice now r within unspent w = record {
 }
 
 -- a step of a sound broker leaves what a broker writes
-pub step_written : (limits : Limits) (choice : MemberChoice) (now : ℕ) (call : Call) (b : Broker) → is_step_spent limits choice now call b ≡ false → TakesLawful call → IsSound limits b
+pub step_written : (limits : Capacity) (choice : MemberChoice) (now : ℕ) (call : Call) (b : Broker) → is_step_spent limits choice now call b ≡ false → TakesLawful call → IsSound limits b
     → IsWritten (stored b) → IsWritten (stored (stepped limits choice now call b))
 step_written limits choice now call b unspent taken sound w =
     (step_writing limits choice now call b sound.limited taken unspent (record { written = w; topics = sound.contents.lines; timed = sound.timed; last = sound.last })).written
 
 -- so does an opening
-pub opening_written : (limits : Limits) (choice : MemberChoice) (now : ℕ) (r : Records) → AreWithin limits → is_opening_spent limits choice now r ≡ false → IsWritten r → IsWritten (stored (opened limits choice now r))
+pub opening_written : (limits : Capacity) (choice : MemberChoice) (now : ℕ) (r : Records) → AreWithin limits → is_opening_spent limits choice now r ≡ false → IsWritten r → IsWritten (stored (opened limits choice now r))
 opening_written limits choice now r within unspent w = (opening_writing limits choice now r within unspent w).written
 
 -- ---- from an empty store
@@ -139,6 +139,6 @@ pub run_written : (es : List Event) → AreFair es blank → IsWritten (stored (
 run_written es fair = (events_writing es blank fair blank_writing).written
 
 -- and from what a broker has written
-pub opened_written : (limits : Limits) (choice : MemberChoice) (now : ℕ) (r : Records) (es : List Event) → AreWithin limits → is_opening_spent limits choice now r ≡ false → IsWritten r
+pub opened_written : (limits : Capacity) (choice : MemberChoice) (now : ℕ) (r : Records) (es : List Event) → AreWithin limits → is_opening_spent limits choice now r ≡ false → IsWritten r
     → AreFair es (opened limits choice now r) → IsWritten (stored (after_events es (opened limits choice now r)))
 opened_written limits choice now r es within unspent w fair = (events_writing es (opened limits choice now r) fair (opening_writing limits choice now r within unspent w)).written

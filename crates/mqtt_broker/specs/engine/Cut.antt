@@ -4,7 +4,7 @@ use Rattle.mqtt_packet.specs.declared.parts.fault.Fault.{Fault}
 use Rattle.mqtt_packet.specs.declared.codec.packet.Packet.{Packet}
 use Rattle.mqtt_packet.specs.stream.Front.{first_of}
 use Rattle.mqtt_packet.specs.stream.Stream.{Ending, Framing, Item, empty, fault_at, short_at}
-use Rattle.mqtt_rules.specs.declared.step.Limits.{Limits}
+use Rattle.mqtt_rules.specs.declared.step.Capacity.{Capacity}
 use Rattle.mqtt_rules.specs.step.Piece.{Front, Pieced, fed, pieced}
 use Rattle.mqtt_rules.specs.step.State.{Broker, MemberChoice, line_at}
 use Rattle.mqtt_rules.specs.step.Step.{Call, stepped}
@@ -13,8 +13,8 @@ use Rattle.mqtt_rules.specs.step.Step.{Call, stepped}
 
 -- a piece of the stream on the line, or another call, on whatever line; each with its moment and the members chosen
 pub data Coming : Type 0 where
-  Piece : (limits : Limits) (choice : MemberChoice) (now : ℕ) (piece : List ℕ) → Coming
-  Other : (limits : Limits) (choice : MemberChoice) (now : ℕ) (call : Call) → Coming
+  Piece : (limits : Capacity) (choice : MemberChoice) (now : ℕ) (piece : List ℕ) → Coming
+  Other : (limits : Capacity) (choice : MemberChoice) (now : ℕ) (call : Call) → Coming
 
 -- the broker, what the line holds, what of the stream wasn't taken yet, and whether the last answer says to call again
 pub record Giving : Type 0 where

@@ -2,7 +2,7 @@
 use Rattle.std.specs.Prelude.{◌≡◌, ◌≢◌, ◌⊎◌, ℕ, true, false, List, Option, Some, None, Result, IfOk, OnOk, OnErr, IsErrOf}
 use Rattle.mqtt_keep.specs.declared.keeping.keep.Keep.{Ghosts}
 use Rattle.mqtt_records.specs.declared.state.records.Records.{Records}
-use Rattle.mqtt_rules.specs.declared.step.Limits.{Limits}
+use Rattle.mqtt_rules.specs.declared.step.Capacity.{Capacity}
 use Rattle.mqtt_rules.specs.step.Piece.{PieceStep, Pieced, call_on}
 use Rattle.mqtt_rules.specs.step.State.{Broker, line_at, stored}
 use Rattle.mqtt_rules.specs.step.Step.{Call, SpentStep}
@@ -42,11 +42,11 @@ pub record IsPieceAnsweredForLines {K : Type 0} (now line : ℕ) (piece : List �
 
 -- ---- if nothing is asked, no number is spent and nothing is stored
 
-abbrev pub IsSpentBy : Limits → Broker → ℕ → Option Call → Type 0
+abbrev pub IsSpentBy : Capacity → Broker → ℕ → Option Call → Type 0
 IsSpentBy limits old now None = ⊥
 IsSpentBy limits old now (Some call) = SpentStep limits old now call
 
-abbrev pub IsLeftByAny : Limits → Broker → ℕ → Option Call → Records → Type 0
+abbrev pub IsLeftByAny : Capacity → Broker → ℕ → Option Call → Records → Type 0
 IsLeftByAny limits old now None r = r ≡ stored old
 IsLeftByAny limits old now (Some call) r = IsLeftBy limits old now call r
 

@@ -2,7 +2,7 @@
 use Rattle.std.specs.Prelude.{◌≡◌, ◌≢◌, ◌⊎◌, ℕ, true, false, Result, IfOk, OnOk, OnErr, IsErrOf}
 use Rattle.mqtt_keep.specs.declared.keeping.keep.Keep.{Ghosts}
 use Rattle.mqtt_records.specs.declared.state.records.Records.{Records}
-use Rattle.mqtt_rules.specs.declared.step.Limits.{Limits}
+use Rattle.mqtt_rules.specs.declared.step.Capacity.{Capacity}
 use Rattle.mqtt_rules.specs.step.State.{Broker, MemberChoice, stored}
 use Rattle.mqtt_rules.specs.step.Step.{Call, NewLine, Input, BadInput, Lost, Pump, Tick, BrokerStep, SpentStep, bytes_out, is_step_spent, stepped, Outcome as Told}
 use Rattle.mqtt_broker_step.specs.declared.call.EngineError.{EngineError}
@@ -21,7 +21,7 @@ pub record Tells (told : Told) (out : Outcome) : Type 0 where
   pub again : out.again ≡ told.again
 
 -- a call, at a moment, was a step of the broker, and this is its answer
-pub record IsAnswered (limits : Limits) (old : Broker) (now : ℕ) (call : Call) (out : Outcome) (new : Broker) : Type 0 where
+pub record IsAnswered (limits : Capacity) (old : Broker) (now : ℕ) (call : Call) (out : Outcome) (new : Broker) : Type 0 where
   pub told : Told
   pub tells : Tells told out
   pub step : BrokerStep limits old now call told new
@@ -31,7 +31,7 @@ abbrev pub KeepsLines : Broker → Broker → Type 0
 KeepsLines old new = (new.lines ≡ old.lines) × (new.given ≡ old.given)
 
 -- it was answered as in a step of a broker with the same lines, whatever that one has in store
-pub record IsAnsweredForLines (limits : Limits) (old : Broker) (now : ℕ) (call : Call) (out : Outcome) (new : Broker) : Type 0 where
+pub record IsAnsweredForLines (limits : Capacity) (old : Broker) (now : ℕ) (call : Call) (out : Outcome) (new : Broker) : Type 0 where
   pub before : Broker
   pub after : Broker
   pub begins : KeepsLines old before
@@ -41,13 +41,13 @@ pub record IsAnsweredForLines (limits : Limits) (old : Broker) (now : ℕ) (call
 -- ---- what a crash leaves
 
 -- what is stored after the call's step, for some choice of members
-pub record IsStoredNext (limits : Limits) (old : Broker) (now : ℕ) (call : Call) (r : Records) : Type 0 where
+pub record IsStoredNext (limits : Capacity) (old : Broker) (now : ℕ) (call : Call) (r : Records) : Type 0 where
   pub choice : MemberChoice
   pub unspent : is_step_spent limits choice now call old ≡ false
   pub is : r ≡ stored (stepped limits choice now call old)
 
 -- what was stored before the call, or is after it
-abbrev pub IsLeftBy : Limits → Broker → ℕ → Call → Records → Type 0
+abbrev pub IsLeftBy : Capacity → Broker → ℕ → Call → Records → Type 0
 IsLeftBy limits old now call r = (r ≡ stored old) ⊎ IsStoredNext limits old now call r
 
 -- ---- what a call makes of an engine over a store, and what it answers

@@ -3,7 +3,7 @@ use Rattle.std.specs.Prelude.{◌≡◌, ◌≢◌, ◌⊎◌, ℕ, Bool, true, 
 use Rattle.mqtt_keep.specs.declared.keeping.keep.Keep.{Ghosts}
 use Rattle.mqtt_records.specs.declared.state.records.Records.{Records}
 use Rattle.mqtt_records.specs.state.Records.{FitAll, changed_all}
-use Rattle.mqtt_rules.specs.declared.step.Limits.{Limits}
+use Rattle.mqtt_rules.specs.declared.step.Capacity.{Capacity}
 use Rattle.mqtt_rules.specs.step.Contents.{TakesLawful}
 use Rattle.mqtt_rules.specs.step.Laws.{IsOrdered}
 use Rattle.mqtt_rules.specs.step.Routing.{subscribers}
@@ -27,7 +27,7 @@ use Rattle.mqtt_broker.specs.declared.stored.parts.EngineParts.{EngineParts}
 -- ---- the whole broker of slim rows
 
 -- a store holds a whole broker that is sound and alike to this one
-pub record HoldsWhole {K : Type 0} (g : Ghosts K) (keep : K) (limits : Limits) (some whole : Broker) : Type 0 where
+pub record HoldsWhole {K : Type 0} (g : Ghosts K) (keep : K) (limits : Capacity) (some whole : Broker) : Type 0 where
   pub alike : AlikeBrokers some whole
   pub sound : IsSound limits whole
   pub loaded : g.is_loaded keep
@@ -37,13 +37,13 @@ pub record HoldsWhole {K : Type 0} (g : Ghosts K) (keep : K) (limits : Limits) (
 abbrev pub SaysAtHand : {K : Type 0} → Ghosts K → K → Hand → Records → Type 0
 SaysAtHand g keep hand r = g.is_sound keep → SayWhatIsStored hand r
 
-pub record HasWhole {K : Type 0} (g : Ghosts K) (keep : K) (hand : Hand) (limits : Limits) (some : Broker) : Type 0 where
+pub record HasWhole {K : Type 0} (g : Ghosts K) (keep : K) (hand : Hand) (limits : Capacity) (some : Broker) : Type 0 where
   pub whole : Broker
   pub its : HoldsWhole g keep limits some whole
   pub at_hand : SaysAtHand g keep hand whole.records
 
 -- rows are alike to those of a whole broker that is sound
-pub record IsOfSound (limits : Limits) (some : Broker) : Type 0 where
+pub record IsOfSound (limits : Capacity) (some : Broker) : Type 0 where
   pub whole : Broker
   pub alike : AlikeBrokers some whole
   pub sound : IsSound limits whole

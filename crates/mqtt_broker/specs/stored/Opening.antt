@@ -5,7 +5,7 @@ use Rattle.mqtt_keep.specs.declared.keeping.keep.Keep.{Ghosts}
 use Rattle.mqtt_keep.specs.declared.keeping.keep.KeepError.{KeepError}
 use Rattle.mqtt_keep.specs.declared.keeping.keep.KeepError.TheVariants.{Memory, Disk, Size, Corrupt, Schema}
 use Rattle.mqtt_records.specs.declared.state.records.Records.{Records}
-use Rattle.mqtt_rules.specs.declared.step.Limits.{Limits}
+use Rattle.mqtt_rules.specs.declared.step.Capacity.{Capacity}
 use Rattle.mqtt_rules.specs.step.State.{Broker}
 use Rattle.mqtt_rules.specs.step.Step.{BrokerOpening, SpentOpening}
 use Rattle.mqtt_records.specs.state.PassedOn.{StoresPassedOn}
@@ -28,7 +28,7 @@ pub record IsBegun {K : Type 0} (g : Ghosts K) (keep : K) (r : Records) (loaded 
   pub crash : (after : Records) → g.leaves loaded after → g.leaves keep after
 
 -- what is stored after an opening of what a load answered, whose device returned what was written
-pub record IsStoredOpening {K : Type 0} (g : Ghosts K) (limits : Limits) (now : ℕ) (keep : K) (after : Records) : Type 0 where
+pub record IsStoredOpening {K : Type 0} (g : Ghosts K) (limits : Capacity) (now : ℕ) (keep : K) (after : Records) : Type 0 where
   pub loaded : K
   pub records : Records
   pub load : IsLoad g keep records loaded
@@ -38,7 +38,7 @@ pub record IsStoredOpening {K : Type 0} (g : Ghosts K) (limits : Limits) (now : 
 -- ---- Ok: the engine begins with the opening of lawful records that a load answered, and its store holds what that leaves. What
 -- copies say is so while the store's device returns what was written
 
-pub record IsOpened {K : Type 0} (g : Ghosts K) (limits : Limits) (now : ℕ) (keep : K) (engine : Running K) : Type 0 where
+pub record IsOpened {K : Type 0} (g : Ghosts K) (limits : Capacity) (now : ℕ) (keep : K) (engine : Running K) : Type 0 where
   pub loaded : K
   pub records : Records
   pub load : IsLoad g keep records loaded
@@ -62,7 +62,7 @@ pub record IsOpened {K : Type 0} (g : Ghosts K) (limits : Limits) (now : ℕ) (k
 -- ---- a refusal
 
 -- what was loaded has an opening that spends a number
-pub record IsUnfit {K : Type 0} (g : Ghosts K) (limits : Limits) (now : ℕ) (keep : K) : Type 0 where
+pub record IsUnfit {K : Type 0} (g : Ghosts K) (limits : Capacity) (now : ℕ) (keep : K) : Type 0 where
   pub loaded : K
   pub records : Records
   pub load : IsLoad g keep records loaded
@@ -84,14 +84,14 @@ abbrev pub IsLoadRefused : {K : Type 0} (g : Ghosts K) (keep : K) (error : KeepE
 IsLoadRefused g keep error left = g.is_sound left → g.refuses keep error
 
 -- why it is answered
-abbrev pub IsDue : {K : Type 0} (g : Ghosts K) (limits : Limits) (now : ℕ) (keep : K) (error : KeepError) (left : K) → Type 0
+abbrev pub IsDue : {K : Type 0} (g : Ghosts K) (limits : Capacity) (now : ℕ) (keep : K) (error : KeepError) (left : K) → Type 0
 IsDue g limits now keep Memory left = ⊤
 IsDue g limits now keep Disk left = HasFailed g keep left
 IsDue g limits now keep Size left = HasFailed g keep left
 IsDue g limits now keep Corrupt left = IsLoadRefused g keep Corrupt left ⊎ IsUnfit g limits now keep
 IsDue g limits now keep Schema left = IsLoadRefused g keep Schema left
 
-pub record IsRefused {K : Type 0} (g : Ghosts K) (limits : Limits) (now : ℕ) (keep : K) (error : KeepError) (left : K) : Type 0 where
+pub record IsRefused {K : Type 0} (g : Ghosts K) (limits : Capacity) (now : ℕ) (keep : K) (error : KeepError) (left : K) : Type 0 where
   pub due : IsDue g limits now keep error left
   -- but for a failed device nothing changed
   pub same : (error ≡ Disk → ⊥) → (h : Records) → g.holds keep h → g.is_sound left → g.holds left h
@@ -100,6 +100,6 @@ pub record IsRefused {K : Type 0} (g : Ghosts K) (limits : Limits) (now : ℕ) (
 
 -- ---- what is answered
 
-pub record Opened {K : Type 0} (g : Ghosts K) (limits : Limits) (now : ℕ) (keep : K) (result : Result (Running K) (K × KeepError)) : Type 0 where
+pub record Opened {K : Type 0} (g : Ghosts K) (limits : Capacity) (now : ℕ) (keep : K) (result : Result (Running K) (K × KeepError)) : Type 0 where
   pub opened : IfOk result (λ engine. IsOpened g limits now keep engine)
   pub refused : IfErr result (λ e. IsRefused g limits now keep e.1 e.0)

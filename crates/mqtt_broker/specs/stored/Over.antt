@@ -5,7 +5,7 @@ use Rattle.mqtt_keep.specs.declared.keeping.keep.Keep.{Ghosts}
 use Rattle.mqtt_keep.specs.declared.keeping.keep.KeepError.{KeepError}
 use Rattle.mqtt_keep.specs.declared.keeping.keep.KeepError.TheVariants.{Disk, Size, Corrupt, Schema}
 use Rattle.mqtt_records.specs.declared.state.records.Records.{Records}
-use Rattle.mqtt_rules.specs.declared.step.Limits.{Limits}
+use Rattle.mqtt_rules.specs.declared.step.Capacity.{Capacity}
 use Rattle.mqtt_rules.specs.step.Laws.{AreWithin}
 use Rattle.mqtt_rules.specs.step.State.{Broker}
 use Rattle.mqtt_rules.specs.step.Step.{BrokerOpening, SpentOpening}
@@ -28,28 +28,28 @@ pub record AreOver {K : Type 0} (g : Ghosts K) (keep : K) (some whole : Records)
   pub holds : g.holds keep whole
 
 -- a broker at rest on such rows
-pub record IsUnopened {K : Type 0} (g : Ghosts K) (limits : Limits) (now : ℕ) (whole : Records) (keep : K) (s : Stepping) : Type 0 where
+pub record IsUnopened {K : Type 0} (g : Ghosts K) (limits : Capacity) (now : ℕ) (whole : Records) (keep : K) (s : Stepping) : Type 0 where
   pub some : Records
   pub over : AreOver g keep some whole
   pub within : AreWithin limits
   pub is : s ≡ resting limits now some
 
 -- a step that did the opening of such rows, with its moment
-pub record HasOpened {K : Type 0} (g : Ghosts K) (limits : Limits) (now : ℕ) (whole : Records) (keep : K) (s : Stepping) : Type 0 where
+pub record HasOpened {K : Type 0} (g : Ghosts K) (limits : Capacity) (now : ℕ) (whole : Records) (keep : K) (s : Stepping) : Type 0 where
   pub some : Records
   pub over : AreOver g keep some whole
   pub within : AreWithin limits
   pub did : DidOpen limits now some s
 
 -- the store holds what the opening of the whole records leaves, and the rows are alike to that
-pub record IsOpeningHeld {K : Type 0} (g : Ghosts K) (limits : Limits) (now : ℕ) (whole : Records) (keep : K) (s : Stepping) : Type 0 where
+pub record IsOpeningHeld {K : Type 0} (g : Ghosts K) (limits : Capacity) (now : ℕ) (whole : Records) (keep : K) (s : Stepping) : Type 0 where
   pub after : Broker
   pub opening : BrokerOpening limits whole now after
   pub its : HoldsWhole g keep limits s.broker after
   pub rest : s ≡ at_rest limits s.broker
 
 -- what a store, and a step, are left with that an opening was told to
-pub record IsOpeningTold {K : Type 0} (g : Ghosts K) (limits : Limits) (now : ℕ) (whole : Records) (old : K) (result : Result ⊤ KeepError) (keep : K) (s : Stepping)
+pub record IsOpeningTold {K : Type 0} (g : Ghosts K) (limits : Capacity) (now : ℕ) (whole : Records) (old : K) (result : Result ⊤ KeepError) (keep : K) (s : Stepping)
     : Type 0 where
   pub held : OnOk result (IsOpeningHeld g limits now whole keep s)
   -- but for a failed device nothing changed in the store

@@ -2,7 +2,7 @@
 ghost use Rattle.mqtt_records.specs.declared.state.records.Records.{Records};
 ghost use Rattle.mqtt_rules.specs.step.Laws.{IsCoherent};
 ghost use Rattle.mqtt_rules.specs.step.State.{Broker};
-ghost use Rattle.mqtt_rules.specs.declared.step.Limits.{Limits};
+ghost use Rattle.mqtt_rules.specs.declared.step.Capacity.{Capacity};
 ghost use Rattle.mqtt_rules.specs.alike.Alike.{AlikeBrokers, AlikeRecords};
 ghost use Rattle.mqtt_broker_acts.specs.calls.Ready.{AreSourcesStored, IsReady};
 ghost use Rattle.mqtt_broker_acts.specs.calls.Sound.{IsSound};
@@ -10,9 +10,9 @@ ghost use Rattle.mqtt_broker_acts.specs.calls.Sound.{IsSound};
 /// A broker that is alike to one that can do its calls can do them too, whatever its waiting copies say: so an engine
 /// whose rows say their topics alone may call on them, if the broker of the whole rows is sound (4.1).
 pub fn alike_brokers_are_ready()
-    ensures ready { (limits : Limits) (some whole : Broker) → AlikeBrokers some whole → IsReady limits whole
+    ensures ready { (limits : Capacity) (some whole : Broker) → AlikeBrokers some whole → IsReady limits whole
         → IsReady limits some }
-    ensures sound { (limits : Limits) (some whole : Broker) → AlikeBrokers some whole → IsSound limits whole
+    ensures sound { (limits : Capacity) (some whole : Broker) → AlikeBrokers some whole → IsSound limits whole
         → IsReady limits some }
 {}
 

@@ -47,10 +47,10 @@ impl<K: Keep> Drop for Engine<K> {
 }
 
 impl<K: Keep> Engine<K> {
-    /// A line is linked at a moment in milliseconds, and gets the next number, from 1. None if 64 lines stand or 2^62
+    /// A line is linked at a moment in milliseconds, and gets the next number, from 1. None if there is no room for it or 2^62
     /// were linked. Works after the store has failed too. Takes no memory.
     pub fn link(&mut self, moment: u64) -> Option<u64>
-        ensures line { result ≡ next_line self.old.running.broker }
+        ensures line { result ≡ next_line self.old.running.limits self.old.running.broker }
         ensures step { BrokerStep self.old.running.limits self.old.running.broker moment NewLine nothing_told
             self.new.running.broker }
         ensures same { self.new.running

@@ -1,11 +1,11 @@
-//! However a stream of bytes comes, what is answered is what it is cut into; and what a crash leaves of a call over a store that
-//! is settled (MQTT 5.0, 2.1, 4.1).
-ghost use Rattle.std.specs.Prelude.{◌≡◌, ◌⊎◌, ℕ, List, Result};
+//! However a stream of bytes comes, what is answered is what it is cut into; what a crash leaves of a call over a store that is
+//! settled; and how many lines stand (MQTT 5.0, 2.1, 4.1).
+ghost use Rattle.std.specs.Prelude.{◌≡◌, ◌⊎◌, ◌≤◌, ℕ, List, Result, length};
 ghost use Rattle.mqtt_packet.specs.stream.Stream.{Ending, IsStream, Item};
 ghost use Rattle.mqtt_records.specs.declared.state.records.Records.{Records};
-ghost use Rattle.mqtt_rules.specs.declared.step.Limits.{Limits};
-ghost use Rattle.mqtt_rules.specs.step.State.{Broker};
-ghost use Rattle.mqtt_rules.specs.step.Step.{Call};
+ghost use Rattle.mqtt_rules.specs.declared.step.Capacity.{Capacity};
+ghost use Rattle.mqtt_rules.specs.step.State.{Broker, MemberChoice};
+ghost use Rattle.mqtt_rules.specs.step.Step.{Call, opened, stepped};
 ghost use Rattle.mqtt_broker_step.specs.declared.call.EngineError.{EngineError};
 ghost use Rattle.mqtt_broker.specs.declared.stored.outcome.Outcome.{Outcome};
 ghost use Rattle.mqtt_broker.specs.engine.Cut.{Coming, IsFrontOf, IsGivenOn, IsGivenWhole, after_comings, answered, given_first, there_in};
@@ -32,6 +32,15 @@ pub fn streams_may_come_in_any_pieces()
         → answered line came (given_first stream b) ≡ there_in items ending }
 {}
 
+/// A broker that is opened has no line, and a step that finds no more lines than were asked for leaves no more: so no more ever
+/// stand (ours).
+pub fn no_more_lines_stand_than_are_asked_for()
+    ensures step { (limits : Capacity) (choice : MemberChoice) (now : ℕ) (call : Call) (b : Broker)
+        → length b.lines ≤ limits.lines → length (stepped limits choice now call b).lines ≤ limits.lines }
+    ensures opened { (limits : Capacity) (choice : MemberChoice) (now : ℕ) (r : Records)
+        → length (opened limits choice now r).lines ≡ 0 }
+{}
+
 /// An engine is called whose store has nothing that waits to be written: a crash leaves what was stored before the call or is
 /// after it. So it is of a piece, and of an opening over such a store. A store that writes all at once is always such.
 pub fn a_call_over_a_settled_store<K: Keep>()
@@ -42,7 +51,7 @@ pub fn a_call_over_a_settled_store<K: Keep>()
         → RunsSettled K.Keep old.running → PieceCalled K.Keep now line piece old result new
         → K.is_sound new.running.keep → K.leaves new.running.keep left
         → IsLeftByAny old.running.limits old.running.broker now (call_by line piece old) left }
-    ensures opened { (limits : Limits) (now : ℕ) (keep : K) (engine : Running K) (r left : Records)
+    ensures opened { (limits : Capacity) (now : ℕ) (keep : K) (engine : Running K) (r left : Records)
         → K.is_settled keep → K.holds keep r → IsOpened K.Keep limits now keep engine
         → K.is_sound engine.keep → K.leaves engine.keep left
         → (left ≡ r) ⊎ IsStoredOpening K.Keep limits now keep left }

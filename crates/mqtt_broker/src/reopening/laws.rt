@@ -8,7 +8,7 @@ ghost use Rattle.mqtt_rules.specs.step.Laws.{AreWithin, Event, IsCoherent, IsOrd
 ghost use Rattle.mqtt_rules.specs.step.Numbers.{IsTimed};
 ghost use Rattle.mqtt_rules.specs.step.State.{Broker, MemberChoice, stored};
 ghost use Rattle.mqtt_rules.specs.step.Step.{Call, is_opening_spent, is_step_spent, opened, stepped};
-ghost use Rattle.mqtt_rules.specs.declared.step.Limits.{Limits as TheLimits};
+ghost use Rattle.mqtt_rules.specs.declared.step.Capacity.{Capacity as TheCapacity};
 ghost use Rattle.mqtt_broker_acts.specs.calls.Sound.{IsSound};
 ghost use Rattle.mqtt_world_laws.specs.acceptance.Identities.{TellsApart};
 ghost use Rattle.mqtt_broker.specs.reopening.Bounds.{HaveBounds};
@@ -25,10 +25,10 @@ ghost use Rattle.mqtt_broker.specs.reopening.Written.{AreFair, IsWritten};
 /// store, and after each step and each opening if it was so before (4.1).
 pub fn times_stay_in_order()
     ensures nothing { AreTimely 0 nothing }
-    ensures step { (limits : TheLimits) (choice : MemberChoice) (now : ℕ) (call : Call) (b : Broker)
+    ensures step { (limits : TheCapacity) (choice : MemberChoice) (now : ℕ) (call : Call) (b : Broker)
         → IsTimed b → AreTimely (stored b).moment (stored b)
         → AreTimely (stored (stepped limits choice now call b)).moment (stored (stepped limits choice now call b)) }
-    ensures opening { (limits : TheLimits) (choice : MemberChoice) (now : ℕ) (r : Records)
+    ensures opening { (limits : TheCapacity) (choice : MemberChoice) (now : ℕ) (r : Records)
         → IsNumber r.moment → AreTimely r.moment r
         → AreTimely (stored (opened limits choice now r)).moment (stored (opened limits choice now r)) }
 {}
@@ -38,9 +38,9 @@ pub fn times_stay_in_order()
 /// opening if it was so before (3.8.4).
 pub fn places_stay_apart()
     ensures nothing { HavePlacesApart nothing }
-    ensures step { (limits : TheLimits) (choice : MemberChoice) (now : ℕ) (call : Call) (b : Broker)
+    ensures step { (limits : TheCapacity) (choice : MemberChoice) (now : ℕ) (call : Call) (b : Broker)
         → HavePlacesApart (stored b) → HavePlacesApart (stored (stepped limits choice now call b)) }
-    ensures opening { (limits : TheLimits) (choice : MemberChoice) (now : ℕ) (r : Records)
+    ensures opening { (limits : TheCapacity) (choice : MemberChoice) (now : ℕ) (r : Records)
         → HavePlacesApart r → HavePlacesApart (stored (opened limits choice now r)) }
 {}
 
@@ -50,10 +50,10 @@ pub fn places_stay_apart()
 /// (4.3, 4.6).
 pub fn phases_fit_their_service()
     ensures nothing { HavePhases nothing }
-    ensures step { (limits : TheLimits) (choice : MemberChoice) (now : ℕ) (call : Call) (b : Broker)
+    ensures step { (limits : TheCapacity) (choice : MemberChoice) (now : ℕ) (call : Call) (b : Broker)
         → IsOrdered (stored b) → HavePhases (stored b)
         → HavePhases (stored (stepped limits choice now call b)) }
-    ensures opening { (limits : TheLimits) (choice : MemberChoice) (now : ℕ) (r : Records)
+    ensures opening { (limits : TheCapacity) (choice : MemberChoice) (now : ℕ) (r : Records)
         → IsOrdered r → HavePhases r → HavePhases (stored (opened limits choice now r)) }
 {}
 
@@ -63,9 +63,9 @@ pub fn phases_fit_their_service()
 /// before (3.3.1.3, 3.3.4, 4.6).
 pub fn copies_stay_apart()
     ensures nothing { HaveIdentities nothing }
-    ensures step { (limits : TheLimits) (choice : MemberChoice) (now : ℕ) (call : Call) (b : Broker)
+    ensures step { (limits : TheCapacity) (choice : MemberChoice) (now : ℕ) (call : Call) (b : Broker)
         → HaveIdentities (stored b) → HaveIdentities (stored (stepped limits choice now call b)) }
-    ensures opening { (limits : TheLimits) (choice : MemberChoice) (now : ℕ) (r : Records)
+    ensures opening { (limits : TheCapacity) (choice : MemberChoice) (now : ℕ) (r : Records)
         → HaveIdentities r → HaveIdentities (stored (opened limits choice now r)) }
 {}
 
@@ -74,11 +74,11 @@ pub fn copies_stay_apart()
 /// each opening of coherent records if it was so before, and no number is spent (ours).
 pub fn numbers_stay_within_the_last()
     ensures nothing { HaveBounds nothing }
-    ensures step { (limits : TheLimits) (choice : MemberChoice) (now : ℕ) (call : Call) (b : Broker)
+    ensures step { (limits : TheCapacity) (choice : MemberChoice) (now : ℕ) (call : Call) (b : Broker)
         → AreWithin limits → IsCoherent (stored b) → IsTimed b → IsNumber b.now
         → is_step_spent limits choice now call b ≡ false
         → HaveBounds (stored b) → HaveBounds (stored (stepped limits choice now call b)) }
-    ensures opening { (limits : TheLimits) (choice : MemberChoice) (now : ℕ) (r : Records)
+    ensures opening { (limits : TheCapacity) (choice : MemberChoice) (now : ℕ) (r : Records)
         → AreWithin limits → IsCoherent r → is_opening_spent limits choice now r ≡ false
         → HaveBounds r → HaveBounds (stored (opened limits choice now r)) }
 {}
@@ -88,9 +88,9 @@ pub fn numbers_stay_within_the_last()
 /// new store, and after each step and each opening if it was so before (3.1.3.1).
 pub fn client_identifiers_stay_lawful()
     ensures nothing { AreNamed nothing }
-    ensures step { (limits : TheLimits) (choice : MemberChoice) (now : ℕ) (call : Call) (b : Broker)
+    ensures step { (limits : TheCapacity) (choice : MemberChoice) (now : ℕ) (call : Call) (b : Broker)
         → AreNamed (stored b) → AreNamed (stored (stepped limits choice now call b)) }
-    ensures opening { (limits : TheLimits) (choice : MemberChoice) (now : ℕ) (r : Records)
+    ensures opening { (limits : TheCapacity) (choice : MemberChoice) (now : ℕ) (r : Records)
         → AreNamed r → AreNamed (stored (opened limits choice now r)) }
 {}
 
@@ -100,10 +100,10 @@ pub fn client_identifiers_stay_lawful()
 /// 3.8.3, 4.8.2).
 pub fn texts_stay_lawful()
     ensures nothing { HaveTexts nothing }
-    ensures step { (limits : TheLimits) (choice : MemberChoice) (now : ℕ) (call : Call) (b : Broker)
+    ensures step { (limits : TheCapacity) (choice : MemberChoice) (now : ℕ) (call : Call) (b : Broker)
         → TakesLawful call → HaveIdentities (stored b) → HaveTexts (stored b)
         → HaveTexts (stored (stepped limits choice now call b)) }
-    ensures opening { (limits : TheLimits) (choice : MemberChoice) (now : ℕ) (r : Records)
+    ensures opening { (limits : TheCapacity) (choice : MemberChoice) (now : ℕ) (r : Records)
         → HaveIdentities r → HaveTexts r → HaveTexts (stored (opened limits choice now r)) }
 {}
 
@@ -118,11 +118,11 @@ pub fn what_a_broker_writes_is_lawful()
     ensures lawful { (r : Records) → IsWritten r → IsLawful r }
     ensures apart { (r : Records) → IsWritten r → TellsApart r }
     ensures nothing { IsWritten nothing }
-    ensures step { (limits : TheLimits) (choice : MemberChoice) (now : ℕ) (call : Call) (b : Broker)
+    ensures step { (limits : TheCapacity) (choice : MemberChoice) (now : ℕ) (call : Call) (b : Broker)
         → is_step_spent limits choice now call b ≡ false → TakesLawful call
         → IsSound limits b → IsWritten (stored b)
         → IsWritten (stored (stepped limits choice now call b)) }
-    ensures opening { (limits : TheLimits) (choice : MemberChoice) (now : ℕ) (r : Records)
+    ensures opening { (limits : TheCapacity) (choice : MemberChoice) (now : ℕ) (r : Records)
         → AreWithin limits → is_opening_spent limits choice now r ≡ false
         → IsWritten r → IsWritten (stored (opened limits choice now r)) }
 {}
@@ -134,7 +134,7 @@ pub fn what_a_broker_writes_is_lawful()
 pub fn a_store_may_be_opened_again()
     ensures run { (events : List Event) → AreFair events blank
         → IsLawful (stored (after_events events blank)) }
-    ensures opened { (limits : TheLimits) (choice : MemberChoice) (now : ℕ) (r : Records) (events : List Event)
+    ensures opened { (limits : TheCapacity) (choice : MemberChoice) (now : ℕ) (r : Records) (events : List Event)
         → AreWithin limits → is_opening_spent limits choice now r ≡ false → IsWritten r
         → AreFair events (opened limits choice now r)
         → IsLawful (stored (after_events events (opened limits choice now r))) }

@@ -1,7 +1,7 @@
 -- A step that has begun, and one that hasn't.
 use Rattle.std.proofs.Common.{◌≡◌, ℕ, [], ap, sym, subst, ◌∙◌}
 use Rattle.mqtt_records.specs.declared.state.records.Records.{Records}
-use Rattle.mqtt_rules.specs.declared.step.Limits.{Limits}
+use Rattle.mqtt_rules.specs.declared.step.Capacity.{Capacity}
 use Rattle.mqtt_rules.specs.step.State.{Broker, Env}
 use Rattle.mqtt_rules.specs.step.Deeds.{Act}
 use Rattle.mqtt_rules.specs.step.Step.{at_moment}
@@ -16,7 +16,7 @@ pub begun_is : (now : ℕ) (s s1 : Stepping) → s ≡ at_rest s.limits s.broker
 begun_is now s s1 rest is = is ∙ ap (with_broker (at_moment now s.broker)) rest
 
 -- what is stored stays
-pub at_begun : (P : Records → Type 0) (limits : Limits) (now : ℕ) (b : Broker) (s : Stepping) → s ≡ begun limits now b → P b.records → P s.broker.records
+pub at_begun : (P : Records → Type 0) (limits : Capacity) (now : ℕ) (b : Broker) (s : Stepping) → s ≡ begun limits now b → P b.records → P s.broker.records
 at_begun P limits now b s same h = subst (λ (t : Stepping). P t.broker.records) (sym same) h
 
 -- want of memory leaves a step that can be taken back

@@ -10,7 +10,7 @@ use Rattle.mqtt_records.specs.declared.state.change.Change.{Change}
 use Rattle.mqtt_records.specs.declared.state.change.Change.TheVariants.{SetCounter}
 use Rattle.mqtt_records.specs.declared.state.change.Counter.TheVariants.{Moment}
 use Rattle.mqtt_records.specs.declared.state.session.Session.{Session}
-use Rattle.mqtt_rules.specs.declared.step.Limits.{Limits}
+use Rattle.mqtt_rules.specs.declared.step.Capacity.{Capacity}
 use Rattle.mqtt_rules.specs.step.Contents.{IsTaken}
 use Rattle.mqtt_rules.specs.step.Deeds.{Act, Hear, On, after_all, always, of_session, rows_of_all, series, then, with_line, with_session}
 use Rattle.mqtt_rules.specs.step.Lines.{session_on}
@@ -37,7 +37,7 @@ spent_stamped now was (row ∷ rows) e =
     spent_append (row ∷ rows) (stamp_of now was) ∙ ap (λ b. b || is_spent (stamp_of now was)) e
 
 -- what an act of a call made of a step that had begun is what the call makes of it
-pub did_call : (limits : Limits) (now : ℕ) (call : Call) (again : Bool) (b : Broker) (s : Stepping)
+pub did_call : (limits : Capacity) (now : ℕ) (call : Call) (again : Bool) (b : Broker) (s : Stepping)
     → ((choice : MemberChoice) → again ≡ is_again call (deeds limits choice now call b))
     → DoesSome (λ env. deeds_of env call) (begun limits now b) s → DidCall now call again s
 did_call limits now call again b s more does =
@@ -47,14 +47,14 @@ did_call limits now call again b s more does =
     let start : s.start ≡ b = ap (λ (t : Stepping). t.start) is in
     record {
       choice = choice;
-      is = is ∙ (ap (λ (l : Limits). did (deeds l choice now call b) (begun l now b)) (sym same)
+      is = is ∙ (ap (λ (l : Capacity). did (deeds l choice now call b) (begun l now b)) (sym same)
           ∙ ap (λ (c : Broker). did (deeds s.limits choice now call c) (begun s.limits now c)) (sym start));
-      again_is = more choice ∙ (ap (λ (l : Limits). is_again call (deeds l choice now call b)) (sym same)
+      again_is = more choice ∙ (ap (λ (l : Capacity). is_again call (deeds l choice now call b)) (sym same)
           ∙ ap (λ (c : Broker). is_again call (deeds s.limits choice now call c)) (sym start));
     }
 
 -- a call that is refused as spent would spend a number
-pub left_call : (limits : Limits) (now : ℕ) (call : Call) (b : Broker) (fault : StepFault) (s : Stepping)
+pub left_call : (limits : Capacity) (now : ℕ) (call : Call) (b : Broker) (fault : StepFault) (s : Stepping)
     → LeavesSome (λ env. deeds_of env call) fault (begun limits now b) s → fault ≡ Spent → SpentStep s.limits s.start now call
 left_call limits now call b fault s leaves e =
     let choice : MemberChoice = λ number sender. leaves.members in
@@ -63,7 +63,7 @@ left_call limits now call b fault s leaves e =
     spent_stamped (at_moment now b).now b.records.moment (rows_of_all (deeds limits choice now call b) b.records) (left.spent e) in
     record {
       choice = choice;
-      spent = ap (λ (l : Limits). is_step_spent l choice now call s.start) left.limits ∙ (ap (λ (c : Broker). is_step_spent limits choice now call c) left.start ∙ spent);
+      spent = ap (λ (l : Capacity). is_step_spent l choice now call s.start) left.limits ∙ (ap (λ (c : Broker). is_step_spent limits choice now call c) left.start ∙ spent);
     }
 
 -- if nothing is chosen
@@ -74,7 +74,7 @@ some_left : (act : Env → Act) (fault : StepFault) (s new : Stepping) → Leave
 some_left act fault s new left = record { number = 0; sender = []; members = []; is = λ choice taken. left choice }
 
 -- an act that does what a call asks for is that call
-pub called_by : (limits : Limits) (now : ℕ) (call : Call) (again : Bool) (b : Broker) (s new : Stepping) (r : Result ⊤ StepFault) → s ≡ begun limits now b
+pub called_by : (limits : Capacity) (now : ℕ) (call : Call) (again : Bool) (b : Broker) (s new : Stepping) (r : Result ⊤ StepFault) → s ≡ begun limits now b
     → ((choice : MemberChoice) → again ≡ is_again call (deeds limits choice now call b))
     → OnOk r (Does (λ env. deeds_of env call) s new) → IfErr r (λ fault. Leaves (λ env. deeds_of env call) fault s new)
     → IsCalled now call again r new
@@ -89,13 +89,13 @@ choosing_first : MemberChoice
 choosing_first = λ number sender. []
 
 -- the state in which it began, and its limits, stay
-pub start_by : (limits : Limits) (now : ℕ) (act : Env → Act) (b : Broker) (s new : Stepping) (r : Result ⊤ StepFault) → s ≡ begun limits now b
+pub start_by : (limits : Capacity) (now : ℕ) (act : Env → Act) (b : Broker) (s new : Stepping) (r : Result ⊤ StepFault) → s ≡ begun limits now b
     → OnOk r (Does act s new) → IfErr r (λ fault. Leaves act fault s new) → new.start ≡ b
 start_by limits now act b s new (Ok done) same ok left = ap (λ (t : Stepping). t.start) (ok choosing_first).is ∙ ap (λ (t : Stepping). t.start) same
 start_by limits now act b s new (Err fault) same ok left = (left choosing_first).start ∙ ap (λ (t : Stepping). t.start) same
 
 -- an act leaves the limits
-pub limits_by : (limits : Limits) (now : ℕ) (act : Env → Act) (b : Broker) (s new : Stepping) (r : Result ⊤ StepFault) → s ≡ begun limits now b
+pub limits_by : (limits : Capacity) (now : ℕ) (act : Env → Act) (b : Broker) (s new : Stepping) (r : Result ⊤ StepFault) → s ≡ begun limits now b
     → OnOk r (Does act s new) → IfErr r (λ fault. Leaves act fault s new) → new.limits ≡ limits
 limits_by limits now act b s new (Ok done) same ok left = ap (λ (t : Stepping). t.limits) (ok choosing_first).is ∙ ap (λ (t : Stepping). t.limits) same
 limits_by limits now act b s new (Err fault) same ok left = (left choosing_first).limits ∙ ap (λ (t : Stepping). t.limits) same

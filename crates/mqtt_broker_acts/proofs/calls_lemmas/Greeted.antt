@@ -6,7 +6,7 @@ use Rattle.mqtt_packet.specs.declared.codec.packet.Packet.{Packet}
 use Rattle.mqtt_packet.specs.declared.codec.packet.Packet.TheVariants as packets
 use Rattle.mqtt_packet.specs.declared.connect.connect.Connect.{Connect}
 use Rattle.mqtt_records.specs.declared.state.records.Records.{Records}
-use Rattle.mqtt_rules.specs.declared.step.Limits.{Limits}
+use Rattle.mqtt_rules.specs.declared.step.Capacity.{Capacity}
 use Rattle.mqtt_rules.specs.step.Closing.{close}
 use Rattle.mqtt_rules.specs.step.Connect.{largest_of, on_connect, refusal_size, refused}
 use Rattle.mqtt_rules.specs.step.Deeds.{Deed, Gone, Hear, On, Send, after_all, always}
@@ -120,11 +120,11 @@ not_again l c now fault s s1 s2 back same memory =
     memory_left (turns_away l c) fault (begun s.limits now s.start) s2
     (ap (λ (t : Stepping). t.start) (same ∙ back)) (ap (λ (t : Stepping). t.limits) (same ∙ back)) memory
 
-same_begun : (now : ℕ) (limits : Limits) (b : Broker) (s : Stepping) → s.start ≡ b → s.limits ≡ limits → begun s.limits now s.start ≡ begun limits now b
-same_begun now limits b s start is = ap (λ (x : Limits). begun x now s.start) is ∙ ap (begun limits now) start
+same_begun : (now : ℕ) (limits : Capacity) (b : Broker) (s : Stepping) → s.start ≡ b → s.limits ≡ limits → begun s.limits now s.start ≡ begun limits now b
+same_begun now limits b s start is = ap (λ (x : Capacity). begun x now s.start) is ∙ ap (begun limits now) start
 
 -- a client that is turned away is what its CONNECT comes to
-pub away_done : (line : ℕ) (l : Line) (c : Connect) (now : ℕ) (limits : Limits) (b : Broker) (s new : Stepping) → l.number ≡ line → IsTurnedAway line c (begun limits now b)
+pub away_done : (line : ℕ) (l : Line) (c : Connect) (now : ℕ) (limits : Capacity) (b : Broker) (s new : Stepping) → l.number ≡ line → IsTurnedAway line c (begun limits now b)
     → s.start ≡ b → s.limits ≡ limits → Did (turns_away l c) (begun s.limits now s.start) new
     → DoesSome (λ env. deeds_of env (Input line (packets.Connect c))) (begun limits now b) new
 away_done line l c now limits b s new number away start is did =
@@ -139,7 +139,7 @@ away_done line l c now limits b s new number away start is did =
     }
 
 -- or that is refused
-pub away_left : (line : ℕ) (l : Line) (c : Connect) (now : ℕ) (limits : Limits) (b : Broker) (fault : StepFault) (s new : Stepping) → l.number ≡ line → IsTurnedAway line c (begun limits now b)
+pub away_left : (line : ℕ) (l : Line) (c : Connect) (now : ℕ) (limits : Capacity) (b : Broker) (fault : StepFault) (s new : Stepping) → l.number ≡ line → IsTurnedAway line c (begun limits now b)
     → s.start ≡ b → s.limits ≡ limits → IsLeft (turns_away l c) fault (begun s.limits now s.start) new
     → LeavesSome (λ env. deeds_of env (Input line (packets.Connect c))) fault (begun limits now b) new
 away_left line l c now limits b fault s new number away start is left =

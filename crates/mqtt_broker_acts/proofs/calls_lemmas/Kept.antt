@@ -23,7 +23,7 @@ use Rattle.mqtt_records.specs.state.Records.{Fits, FitAll, IsNumber, changed, ch
 use Rattle.mqtt_records.specs.state.Session.{birth_of, copy_place, fresh, in_phase, with_columns, with_will, with_subscription, without_subscription, with_open, without_open, with_copy, with_phase, without_copy}
 use Rattle.mqtt_records.specs.lists.Order.{IsAscending, has_row, put_row, change_row, row_at}
 use Rattle.mqtt_records.proofs.lists_lemmas.LookUps.{row_at-here}
-use Rattle.mqtt_rules.specs.declared.step.Limits.{Limits}
+use Rattle.mqtt_rules.specs.declared.step.Capacity.{Capacity}
 use Rattle.mqtt_rules.specs.step.Laws.{AreWithin, IsCoherent}
 use Rattle.mqtt_rules.specs.step.Numbers.{IsTimed}
 use Rattle.mqtt_rules.specs.step.State.{Broker, MemberChoice, entry_on}
@@ -147,7 +147,7 @@ lawful_filters r h =
 -- ---- a step and an opening
 
 -- behind a step orders of release are such as are kept
-pub step_orders : (limits : Limits) (choice : MemberChoice) (now : ℕ) (call : Call) (b : Broker) → AreWithin limits → IsCoherent b.records → IsTimed b → IsNumber b.now
+pub step_orders : (limits : Capacity) (choice : MemberChoice) (now : ℕ) (call : Call) (b : Broker) → AreWithin limits → IsCoherent b.records → IsTimed b → IsNumber b.now
     → is_step_spent limits choice now call b ≡ false → ((birth : ℕ) → HasKeptOrders birth b.records) → (birth : ℕ) → HasKeptOrders birth (stepped limits choice now call b).records
 step_orders limits choice now call b within coherent timed last unspent orders =
     let c = at_moment now b in
@@ -157,14 +157,14 @@ step_orders limits choice now call b within coherent timed last unspent orders =
     kept_orders (stepped limits choice now call b).records (subst HaveKept (rows_store ds c) kept)
 
 -- and a session has each filter once
-pub step_filters : (limits : Limits) (choice : MemberChoice) (now : ℕ) (call : Call) (b : Broker) → HaveFiltersOnce b.records → HaveFiltersOnce (stepped limits choice now call b).records
+pub step_filters : (limits : Capacity) (choice : MemberChoice) (now : ℕ) (call : Call) (b : Broker) → HaveFiltersOnce b.records → HaveFiltersOnce (stepped limits choice now call b).records
 step_filters limits choice now call b h =
     let c = at_moment now b in
     let ds = deeds limits choice now call b in
     subst HaveFiltersOnce (rows_store ds c) (once_all (rows_written ds c) c.records h)
 
 -- behind an opening orders of release are such as are kept
-pub opening_orders : (limits : Limits) (choice : MemberChoice) (now : ℕ) (r : Records) → AreWithin limits → IsCoherent r → IsLawful r
+pub opening_orders : (limits : Capacity) (choice : MemberChoice) (now : ℕ) (r : Records) → AreWithin limits → IsCoherent r → IsLawful r
     → is_opening_spent limits choice now r ≡ false → (birth : ℕ) → HasKeptOrders birth (opened limits choice now r).records
 opening_orders limits choice now r within coherent lawful unspent =
     let c = unopened now r in
@@ -174,7 +174,7 @@ opening_orders limits choice now r within coherent lawful unspent =
     kept_orders (opened limits choice now r).records (subst HaveKept (rows_store ds c) kept)
 
 -- and a session has each filter once
-pub opening_filters : (limits : Limits) (choice : MemberChoice) (now : ℕ) (r : Records) → IsLawful r → HaveFiltersOnce (opened limits choice now r).records
+pub opening_filters : (limits : Capacity) (choice : MemberChoice) (now : ℕ) (r : Records) → IsLawful r → HaveFiltersOnce (opened limits choice now r).records
 opening_filters limits choice now r lawful =
     let c = unopened now r in
     let ds = opening_deeds limits choice now r in

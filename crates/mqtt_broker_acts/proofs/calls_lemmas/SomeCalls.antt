@@ -3,7 +3,7 @@ use Rattle.std.proofs.Common.{◌≡◌, ℕ, Bool, [], ◌∷◌, ◌++◌, ref
 use Rattle.std.specs.Prelude.{⊤, Option, Some, Result, Ok, Err, IfErr, IfOk, OnOk, nat_eq}
 use Rattle.std.proofs.lemmas.Bool.{eqb-true}
 use Rattle.mqtt_packet.specs.declared.codec.packet.Packet.{Packet}
-use Rattle.mqtt_rules.specs.declared.step.Limits.{Limits}
+use Rattle.mqtt_rules.specs.declared.step.Capacity.{Capacity}
 use Rattle.mqtt_rules.specs.step.Deeds.{Act, after_all, series, with_line}
 use Rattle.mqtt_rules.specs.step.Lines.{session_on}
 use Rattle.mqtt_rules.specs.step.State.{Broker, Env, Line, MemberChoice, line_at}
@@ -21,7 +21,7 @@ use Rattle.mqtt_broker_acts.proofs.calls_lemmas.CallActs.{did_call, hears, left_
 -- ---- from its beginning
 
 -- an act that does what a call asks for is that call, whoever is chosen
-pub called_some : (limits : Limits) (now : ℕ) (call : Call) (again : Bool) (b : Broker) (s new : Stepping) (r : Result ⊤ StepFault) → s ≡ begun limits now b
+pub called_some : (limits : Capacity) (now : ℕ) (call : Call) (again : Bool) (b : Broker) (s new : Stepping) (r : Result ⊤ StepFault) → s ≡ begun limits now b
     → ((choice : MemberChoice) → again ≡ is_again call (deeds limits choice now call b))
     → OnOk r (DoesSome (λ env. deeds_of env call) s new) → IfErr r (λ fault. LeavesSome (λ env. deeds_of env call) fault s new)
     → IsCalled now call again r new
@@ -31,7 +31,7 @@ called_some limits now call again b s new (Err fault) same more ok left =
     left_call limits now call b fault new (subst (λ (t : Stepping). LeavesSome (λ env. deeds_of env call) fault t new) same left)
 
 -- where it says whether there is more
-pub again_some : (limits : Limits) (now : ℕ) (call : Call) (b : Broker) (s new : Stepping) (r : Result Bool StepFault) → s ≡ begun limits now b
+pub again_some : (limits : Capacity) (now : ℕ) (call : Call) (b : Broker) (s new : Stepping) (r : Result Bool StepFault) → s ≡ begun limits now b
     → ((env : Env) → IfOk r (λ again. again ≡ is_again call (deeds_of env call s.broker)))
     → OnOk r (DoesSome (λ env. deeds_of env call) s new) → IfOk r (λ again. DidCall now call again new)
 again_some limits now call b s new (Ok again) same more ok =
@@ -41,7 +41,7 @@ again_some limits now call b s new (Ok again) same more ok =
 again_some limits now call b s new (Err fault) same more ok = tt
 
 -- a call that is refused as spent would spend a number
-pub spent_some : {A : Type 0} (limits : Limits) (now : ℕ) (call : Call) (b : Broker) (s new : Stepping) (r : Result A StepFault) → s ≡ begun limits now b
+pub spent_some : {A : Type 0} (limits : Capacity) (now : ℕ) (call : Call) (b : Broker) (s new : Stepping) (r : Result A StepFault) → s ≡ begun limits now b
     → IfErr r (λ fault. LeavesSome (λ env. deeds_of env call) fault s new)
     → IfErr r (λ fault. fault ≡ Spent → SpentStep new.limits new.start now call)
 spent_some limits now call b s new (Ok a) same left = tt
@@ -49,7 +49,7 @@ spent_some limits now call b s new (Err fault) same left =
     left_call limits now call b fault new (subst (λ (t : Stepping). LeavesSome (λ env. deeds_of env call) fault t new) same left)
 
 -- the state in which it began, and its limits, stay
-pub start_some : {A : Type 0} (limits : Limits) (now : ℕ) (act : Env → Act) (b : Broker) (s new : Stepping) (r : Result A StepFault) → s ≡ begun limits now b
+pub start_some : {A : Type 0} (limits : Capacity) (now : ℕ) (act : Env → Act) (b : Broker) (s new : Stepping) (r : Result A StepFault) → s ≡ begun limits now b
     → OnOk r (DoesSome act s new) → IfErr r (λ fault. LeavesSome act fault s new) → new.start ≡ b
 start_some limits now act b s new (Ok done) same ok left =
     ap (λ (t : Stepping). t.start) (ok.is (λ number sender. ok.members) refl).is ∙ ap (λ (t : Stepping). t.start) same
@@ -57,7 +57,7 @@ start_some limits now act b s new (Err fault) same ok left =
     (left.is (λ number sender. left.members) refl).start ∙ ap (λ (t : Stepping). t.start) same
 
 -- an act leaves the limits
-pub limits_some : {A : Type 0} (limits : Limits) (now : ℕ) (act : Env → Act) (b : Broker) (s new : Stepping) (r : Result A StepFault) → s ≡ begun limits now b
+pub limits_some : {A : Type 0} (limits : Capacity) (now : ℕ) (act : Env → Act) (b : Broker) (s new : Stepping) (r : Result A StepFault) → s ≡ begun limits now b
     → OnOk r (DoesSome act s new) → IfErr r (λ fault. LeavesSome act fault s new) → new.limits ≡ limits
 limits_some limits now act b s new (Ok done) same ok left =
     ap (λ (t : Stepping). t.limits) (ok.is (λ number sender. ok.members) refl).is ∙ ap (λ (t : Stepping). t.limits) same

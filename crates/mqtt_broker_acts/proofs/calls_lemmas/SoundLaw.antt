@@ -2,7 +2,7 @@
 use Rattle.std.proofs.Common.{◌≡◌, ℕ, false}
 use Rattle.mqtt_keep.specs.lawful.Lawful.{IsLawful}
 use Rattle.mqtt_records.specs.declared.state.records.Records.{Records}
-use Rattle.mqtt_rules.specs.declared.step.Limits.{Limits}
+use Rattle.mqtt_rules.specs.declared.step.Capacity.{Capacity}
 use Rattle.mqtt_rules.specs.step.Contents.{TakesLawful, of_rows}
 use Rattle.mqtt_rules.specs.step.Laws.{AreWithin}
 use Rattle.mqtt_rules.specs.step.State.{Broker, MemberChoice, stored}
@@ -24,7 +24,7 @@ use Rattle.mqtt_broker_acts.proofs.calls_lemmas.Flights.{lawful_flight}
 use Rattle.mqtt_broker_acts.proofs.calls_lemmas.Kept.{step_orders, step_filters, opening_orders, opening_filters}
 
 -- a step that spends no number leaves a sound broker sound
-pub step_sound : (limits : Limits) (choice : MemberChoice) (now : ℕ) (call : Call) (b : Broker) → is_step_spent limits choice now call b ≡ false → TakesLawful call
+pub step_sound : (limits : Capacity) (choice : MemberChoice) (now : ℕ) (call : Call) (b : Broker) → is_step_spent limits choice now call b ≡ false → TakesLawful call
     → IsSound limits b → IsSound limits (stepped limits choice now call b)
 step_sound limits choice now call b unspent taken h = record {
   limited = h.limited;
@@ -41,7 +41,7 @@ step_sound limits choice now call b unspent taken h = record {
 }
 
 -- an opening that spends no number makes a sound broker
-pub opening_sound : (limits : Limits) (choice : MemberChoice) (now : ℕ) (r : Records) → AreWithin limits → IsLawful r → is_opening_spent limits choice now r ≡ false
+pub opening_sound : (limits : Capacity) (choice : MemberChoice) (now : ℕ) (r : Records) → AreWithin limits → IsLawful r → is_opening_spent limits choice now r ≡ false
     → IsSound limits (opened limits choice now r)
 opening_sound limits choice now r limited lawful unspent = record {
   limited = limited;
@@ -58,7 +58,7 @@ opening_sound limits choice now r limited lawful unspent = record {
 }
 
 -- a step keeps a sound broker within its own limits
-pub step_within : (limits : Limits) (choice : MemberChoice) (now : ℕ) (call : Call) (b : Broker) → IsSound limits b → IsWithin limits (stored b) → IsWithin limits (stored (stepped limits choice now call b))
+pub step_within : (limits : Capacity) (choice : MemberChoice) (now : ℕ) (call : Call) (b : Broker) → IsSound limits b → IsWithin limits (stored b) → IsWithin limits (stored (stepped limits choice now call b))
 step_within limits choice now call b sound h = record {
   sessions = step_sessions limits choice now call b h.sessions;
   retained = step_retained limits choice now call b sound.coherent.ordered h.retained;
@@ -66,7 +66,7 @@ step_within limits choice now call b sound h = record {
 }
 
 -- an opening keeps records within the broker's limits
-pub opening_within : (limits : Limits) (choice : MemberChoice) (now : ℕ) (r : Records) → AreWithin limits → IsLawful r → IsWithin limits r → IsWithin limits (stored (opened limits choice now r))
+pub opening_within : (limits : Capacity) (choice : MemberChoice) (now : ℕ) (r : Records) → AreWithin limits → IsLawful r → IsWithin limits r → IsWithin limits (stored (opened limits choice now r))
 opening_within limits choice now r limited lawful h =
     let coherent = lawful_coherent r lawful in
     record {

@@ -5,7 +5,7 @@ use Rattle.std.specs.List.{AllByRecursion}
 use Rattle.mqtt_records.specs.declared.state.records.Records.{Records}
 use Rattle.mqtt_records.specs.declared.state.session.Session.{Session}
 use Rattle.mqtt_records.specs.state.Session.{birth_of}
-use Rattle.mqtt_rules.specs.declared.step.Limits.{Limits}
+use Rattle.mqtt_rules.specs.declared.step.Capacity.{Capacity}
 use Rattle.mqtt_rules.specs.step.Contents.{AreContentsLawful, HasContents, HasLawfulContents, IsWilled}
 use Rattle.mqtt_rules.specs.step.State.{Broker, session_at}
 use Rattle.mqtt_rules.proofs.step_lemmas.flight.FlightRows.{all_at}
@@ -27,7 +27,7 @@ pub contents_sources : (b : Broker) → AreContentsLawful b → AreSourcesLawful
 contents_sources b h = record { stored = stored_sources b.records h.stored; lines = h.lines }
 
 -- a sound broker can do its calls
-pub sound_ready : (limits : Limits) (b : Broker) → IsSound limits b → IsReady limits b
+pub sound_ready : (limits : Capacity) (b : Broker) → IsSound limits b → IsReady limits b
 sound_ready limits b h = record {
   limited = h.limited;
   coherent = h.coherent;

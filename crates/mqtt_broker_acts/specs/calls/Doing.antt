@@ -1,6 +1,6 @@
 -- A call done in place: what it made of a step that began where none was under way (MQTT 5.0, 4.1).
 use Rattle.std.specs.Prelude.{◌≡◌, ⊤, ℕ, Bool, Result, Ok, Err}
-use Rattle.mqtt_rules.specs.declared.step.Limits.{Limits}
+use Rattle.mqtt_rules.specs.declared.step.Capacity.{Capacity}
 use Rattle.mqtt_rules.specs.step.State.{Broker, MemberChoice}
 use Rattle.mqtt_rules.specs.step.Step.{Call, SpentStep, at_moment, deeds, is_again}
 use Rattle.mqtt_broker_step.specs.declared.fault.StepFault.{StepFault}
@@ -8,7 +8,7 @@ use Rattle.mqtt_broker_step.specs.declared.fault.StepFault.TheVariants.{Spent}
 use Rattle.mqtt_broker_step.specs.Stepping.{Stepping, at_rest, did, with_broker}
 
 -- a step that has begun at a moment, if none was under way
-abbrev pub begun : Limits → ℕ → Broker → Stepping
+abbrev pub begun : Capacity → ℕ → Broker → Stepping
 begun limits now b = with_broker (at_moment now b) (at_rest limits b)
 
 -- since it began, it did the deeds of a call, for some choice of members, and more may be there

@@ -8,7 +8,7 @@ use Rattle.mqtt_records.specs.declared.state.records.Records.{Records}
 use Rattle.mqtt_records.specs.state.Records.{IsNumber}
 use Rattle.mqtt_records.specs.state.Session.{place_of}
 use Rattle.mqtt_records.specs.lists.Order.{IsTable}
-use Rattle.mqtt_rules.specs.declared.step.Limits.{Limits}
+use Rattle.mqtt_rules.specs.declared.step.Capacity.{Capacity}
 use Rattle.mqtt_rules.specs.step.State.{Broker}
 use Rattle.mqtt_rules.specs.step.Contents.{HasTopics, IsAskedFor, IsPublished, IsWilled}
 use Rattle.mqtt_rules.specs.step.Flight.{HasDistinctIdentifiers}
@@ -39,7 +39,7 @@ pub record AreSourcesLawful (b : Broker) : Type 0 where
 -- ---- what a call asks of a broker
 
 -- whatever its waiting copies say, it is sound otherwise: so a call can do without what they say, which may stand in the store alone
-pub record IsReady (limits : Limits) (b : Broker) : Type 0 where
+pub record IsReady (limits : Capacity) (b : Broker) : Type 0 where
   pub limited : AreWithin limits
   pub coherent : IsCoherent b.records
   pub timed : IsTimed b

@@ -3,7 +3,7 @@ use Rattle.std.specs.Prelude.{ℕ, ◌≤◌, length}
 use Rattle.mqtt_records.specs.declared.state.records.Records.{Records}
 use Rattle.mqtt_records.specs.state.Contents.{SharesContents}
 use Rattle.mqtt_records.specs.state.Records.{IsNumber}
-use Rattle.mqtt_rules.specs.declared.step.Limits.{Limits}
+use Rattle.mqtt_rules.specs.declared.step.Capacity.{Capacity}
 use Rattle.mqtt_rules.specs.step.State.{Broker}
 use Rattle.mqtt_rules.specs.step.Contents.{AreContentsLawful}
 use Rattle.mqtt_rules.specs.step.Flight.{HasDistinctIdentifiers}
@@ -17,7 +17,7 @@ use Rattle.mqtt_broker_queue.specs.queues.Queues.{HasKeptOrders}
 -- copies and retained messages of accepted publications, those of one saying the same; packet identifiers in flight that differ; orders of release that
 -- are such as are kept; each filter of a session once; lines that stand for the connected sessions; and contents that packets
 -- can carry
-pub record IsSound (limits : Limits) (b : Broker) : Type 0 where
+pub record IsSound (limits : Capacity) (b : Broker) : Type 0 where
   pub limited : AreWithin limits
   pub coherent : IsCoherent b.records
   pub timed : IsTimed b
@@ -31,7 +31,7 @@ pub record IsSound (limits : Limits) (b : Broker) : Type 0 where
   pub contents : AreContentsLawful b
 
 -- the broker's own limits, which may be lower than those of what was stored under other ones (ours)
-pub record IsWithin (limits : Limits) (r : Records) : Type 0 where
+pub record IsWithin (limits : Capacity) (r : Records) : Type 0 where
   pub sessions : length r.sessions ≤ limits.sessions
   pub retained : length r.retained ≤ limits.retained
   pub queues : QueuesWithin limits.queue r

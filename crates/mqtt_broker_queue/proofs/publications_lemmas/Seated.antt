@@ -79,7 +79,7 @@ module _ (at : ℕ) (l : Line) (rest lines : List Line) (seats : List ℕ) (here
       let none : seat - at ≡ 0 = omega (arith, is) in
       ap (λ n. find test (take n (drop at lines))) none
 
-  by_session : (o : Option ℕ) → l.session ≡ o → length seats ≡ 256 → seat_of birth < 256 → find test (take (get_or seats (seat_of birth) 0 - suc at) (drop (suc at) lines)) ≡ None
+  by_session : (o : Option ℕ) → l.session ≡ o → length seats ≡ 1024 → seat_of birth < 1024 → find test (take (get_or seats (seat_of birth) 0 - suc at) (drop (suc at) lines)) ≡ None
       → find test (take (get_or (seated o at seats) (seat_of birth) 0 - at) (drop at lines)) ≡ None
   by_session None is many low none = stays (get_or seats (seat_of birth) 0) (ap (λ o. is_of o birth) is) none
   by_session (Some other) is many low none = elim (cases_Bool (nat_eq (seat_of other) (seat_of birth))) [
@@ -101,14 +101,14 @@ module _ (at : ℕ) (l : Line) (rest lines : List Line) (seats : List ℕ) (here
   ]
 
 -- the line at an index gives its session's seat the index
-pub seats_next : (at : ℕ) (l : Line) (rest lines : List Line) (seats : List ℕ) → drop at lines ≡ l ∷ rest → drop (suc at) lines ≡ rest → length seats ≡ 256
+pub seats_next : (at : ℕ) (l : Line) (rest lines : List Line) (seats : List ℕ) → drop at lines ≡ l ∷ rest → drop (suc at) lines ≡ rest → length seats ≡ 1024
     → AreSeatsFrom (suc at) seats lines → AreSeatsFrom at (seated l.session at seats) lines
 seats_next at l rest lines seats here behind many from = λ birth.
     by_session at l rest lines seats here behind birth l.session refl many (omega arith) (from birth)
 
 -- the same by the line that is read at the index
 pub seats_more : (at behind : ℕ) (l : Line) (lines : List Line) (seats new : List ℕ) (session : Option ℕ) → behind ≡ suc at → behind ≤ length lines → l ≡ get_or lines at l → session ≡ l.session
-    → new ≡ seated session at seats → length seats ≡ 256 → AreSeatsFrom behind seats lines → AreSeatsFrom at new lines
+    → new ≡ seated session at seats → length seats ≡ 1024 → AreSeatsFrom behind seats lines → AreSeatsFrom at new lines
 seats_more at behind l lines seats new session is within here session_is new_is many from =
     let some : at < length lines = omega (arith, is, within) in
     let begins : drop at lines ≡ l ∷ drop (suc at) lines = drop-cons lines at l some ∙ ap (λ k. k ∷ drop (suc at) lines) (sym here) in

@@ -18,7 +18,7 @@ use Rattle.mqtt_records.specs.declared.state.session.Session.{Session}
 use Rattle.mqtt_records.specs.state.Session.{copy_place}
 use Rattle.mqtt_routes.specs.routing.Intended.{greatest}
 use Rattle.mqtt_rules.specs.step.Laws.{HasEntered, client_at}
-use Rattle.mqtt_rules.specs.declared.step.Limits.{Limits}
+use Rattle.mqtt_rules.specs.declared.step.Capacity.{Capacity}
 use Rattle.mqtt_rules.specs.step.State.{Broker, Env, entry_on, session_at, queue_on}
 use Rattle.mqtt_rules.specs.step.Deeds.{Act, Deed, At, Enter, Leave, whose, then, always, of_session, with_session, after_all}
 use Rattle.mqtt_rules.specs.step.Outbound.{of_entry, leave_deeds, all_turn_deeds, enter_deeds, first_given, queue_limits, room, since}
@@ -184,13 +184,13 @@ table_there birth x b found table y there = subst (λ (z : Session). IsTable cop
 
 -- ---- what the look was given
 
-abbrev pub limits_of : Limits → QueueLimits
+abbrev pub limits_of : Capacity → QueueLimits
 limits_of l = record { queue = l.queue; full = l.full }
 
 -- if the rules have room for a copy in a session's queue, the look finds it
-pub room_found : (l : Limits) (env : Env) (s : Session) (place : ℕ) (es : List FlowEntry) → l ≡ env.limits → place ≡ since env s → es ≡ queue_on [] s → 0 < room env s → has_room (limits_of l) place es ≡ true
+pub room_found : (l : Capacity) (env : Env) (s : Session) (place : ℕ) (es : List FlowEntry) → l ≡ env.limits → place ≡ since env s → es ≡ queue_on [] s → 0 < room env s → has_room (limits_of l) place es ≡ true
 room_found l env s place es limits place_is es_is free =
-    ap (λ (k : Limits). has_room (limits_of k) place es) limits
+    ap (λ (k : Capacity). has_room (limits_of k) place es) limits
     ∙ (ap (λ n. has_room (limits_of env.limits) n es) place_is
     ∙ (ap (λ (fs : List FlowEntry). has_room (limits_of env.limits) (since env s) fs) es_is
     ∙ lt-ltb (staying env.limits.full (since env s) (queue_on [] s)) env.limits.queue (omega (arith, free))))

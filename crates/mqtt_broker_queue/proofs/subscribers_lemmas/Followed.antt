@@ -14,7 +14,7 @@ use Rattle.mqtt_records.specs.declared.state.session.Session.{Session}
 use Rattle.mqtt_records.specs.declared.state.subscription.Subscription.{Subscription}
 use Rattle.mqtt_records.specs.state.Session.{birth_of}
 use Rattle.mqtt_rules.specs.step.Contents.{HasContents, HasLawfulContents, TakesLawful}
-use Rattle.mqtt_rules.specs.declared.step.Limits.{Limits}
+use Rattle.mqtt_rules.specs.declared.step.Capacity.{Capacity}
 use Rattle.mqtt_rules.specs.step.Deeds.{Whose, Part, Resume, Close, SetExpiry, DropWill, Subscribe, Unsubscribe, Open, Release, Enter, Mark, Leave, Deed, Accept, Begin, Name, Count, At, Finish, Keep, Forget, RefuseWill, Link, On, Send, Gone, will_row, part_rows, part_rows_of, rows_of, rows_of_all, stored_after, after}
 use Rattle.mqtt_rules.specs.step.Laws.{AreWithin, IsCoherent, IsOrdered}
 use Rattle.mqtt_rules.specs.step.State.{Broker, MemberChoice, session_at, stored}
@@ -95,14 +95,14 @@ follow_stamped now was (x ∷ rows) r h = follow_append (x ∷ rows) (stamp_of n
 -- ---- steps and openings
 
 -- an index can follow the rows of a call's deeds
-pub deeds_followed : (limits : Limits) (choice : MemberChoice) (now : ℕ) (call : Call) (b : Broker) → AreWithin limits → IsCoherent (stored b) → IsNumber b.now → TakesLawful call
+pub deeds_followed : (limits : Capacity) (choice : MemberChoice) (now : ℕ) (call : Call) (b : Broker) → AreWithin limits → IsCoherent (stored b) → IsNumber b.now → TakesLawful call
     → CanAllBeFollowed (rows_of_all (deeds limits choice now call b) (stored b)) (stored b)
 deeds_followed limits choice now call b within h last taken =
     let c = at_moment now b in
     follow_deeds (deeds limits choice now call b) c (well_call (env_of limits choice b) within call c (made_of b.records h, moment_last b now last) taken)
 
 -- and those of the whole step, with its moment
-pub step_followed : (limits : Limits) (choice : MemberChoice) (now : ℕ) (call : Call) (b : Broker) → AreWithin limits → IsCoherent (stored b) → IsNumber b.now → TakesLawful call
+pub step_followed : (limits : Capacity) (choice : MemberChoice) (now : ℕ) (call : Call) (b : Broker) → AreWithin limits → IsCoherent (stored b) → IsNumber b.now → TakesLawful call
     → CanAllBeFollowed (rows_written (deeds limits choice now call b) (at_moment now b)) (stored b)
 step_followed limits choice now call b within h last taken =
     follow_stamped (at_moment now b).now b.records.moment (rows_of_all (deeds limits choice now call b) (stored b)) (stored b) (deeds_followed limits choice now call b within h last taken)
@@ -111,7 +111,7 @@ opening_last : (r : Records) (now : ℕ) → IsNumber (unopened now r).now
 opening_last r now = max-le (min-le_right r.moment LAST_NUMBER) (min-le_right now LAST_NUMBER)
 
 -- and those of an opening
-pub opening_followed : (limits : Limits) (choice : MemberChoice) (now : ℕ) (r : Records) → AreWithin limits → IsCoherent r
+pub opening_followed : (limits : Capacity) (choice : MemberChoice) (now : ℕ) (r : Records) → AreWithin limits → IsCoherent r
     → CanAllBeFollowed (rows_written (opening_deeds limits choice now r) (unopened now r)) r
 opening_followed limits choice now r within h =
     let c = unopened now r in

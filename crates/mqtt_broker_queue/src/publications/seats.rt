@@ -6,8 +6,8 @@ ghost use Rattle.mqtt_broker_queue.specs.publications.Seats.{AreSeats, AreSeatsO
 
 use mqtt_broker_step::{LineState, Step};
 
-/// How many seats there are: four for each line that may stand.
-pub(crate) const SEATS: usize = 256;
+/// How many seats there are: some more than lines may stand.
+pub(crate) const SEATS: usize = 1_024;
 
 /// For so few copies the lines are not looked at first, and no room is made at once.
 pub(crate) const FEW: usize = 4;
@@ -16,7 +16,7 @@ pub(crate) const FEW: usize = 4;
 /// leave the same rest have one seat.
 #[derive(Drop)]
 pub(crate) struct Seats {
-    pub(crate) known: Option<[u8; SEATS]>,
+    pub(crate) known: Option<[u16; SEATS]>,
 }
 
 /// The number of a birth's seat.
@@ -28,7 +28,7 @@ fn seat_of(birth: u64) -> usize
 }
 
 /// The session of the line at an index, if there is one, takes its seat.
-fn take_seat(seats: &mut [u8; SEATS], session: Option<u64>, at: u8)
+fn take_seat(seats: &mut [u16; SEATS], session: Option<u64>, at: u16)
     ensures { seats.new ≡ seated session at seats.old }
 {
     if let Some(birth) = session {
@@ -37,15 +37,15 @@ fn take_seat(seats: &mut [u8; SEATS], session: Option<u64>, at: u8)
 }
 
 /// The seats of the sessions that are connected on lines. The first of those that have one seat gives it its index.
-fn seats_of(lines: &[LineState]) -> [u8; SEATS]
+fn seats_of(lines: &[LineState]) -> [u16; SEATS]
     requires { length lines.now ≤ line_limit }
     ensures { AreSeatsOf result lines.now }
 {
-    let mut seats = [lines.len() as u8; SEATS];
+    let mut seats = [lines.len() as u16; SEATS];
     let mut at = lines.len();
     while at > 0 {
         at -= 1;
-        take_seat(&mut seats, lines[at].session(), at as u8);
+        take_seat(&mut seats, lines[at].session(), at as u16);
     }
     seats
 }

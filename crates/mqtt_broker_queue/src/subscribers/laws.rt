@@ -9,7 +9,7 @@ ghost use Rattle.mqtt_rules.specs.step.Deeds.{rows_of_all};
 ghost use Rattle.mqtt_rules.specs.step.Laws.{AreWithin, IsCoherent, IsOrdered};
 ghost use Rattle.mqtt_rules.specs.step.State.{Broker, MemberChoice, stored};
 ghost use Rattle.mqtt_rules.specs.step.Step.{Call, at_moment, deeds, opening_deeds, rows_written, unopened};
-ghost use Rattle.mqtt_rules.specs.declared.step.Limits.{Limits};
+ghost use Rattle.mqtt_rules.specs.declared.step.Capacity.{Capacity};
 ghost use Rattle.mqtt_broker_step.specs.Subscribing.{HaveFiltersOnce};
 ghost use Rattle.mqtt_broker_queue.specs.subscribers.Following.{CanAllBeFollowed, CanBeIndexed};
 
@@ -17,16 +17,16 @@ ghost use Rattle.mqtt_broker_queue.specs.subscribers.Following.{CanAllBeFollowed
 /// subscription that they put has room, keeps its place or comes last, and its Subscription Identifier has a
 /// spelling. Records that a store may be opened with can be indexed, and so can what such rows make of them.
 pub fn rows_can_be_followed()
-    ensures deeds { (limits : Limits) (choice : MemberChoice) (now : ℕ) (call : Call) (b : Broker)
+    ensures deeds { (limits : Capacity) (choice : MemberChoice) (now : ℕ) (call : Call) (b : Broker)
         → AreWithin limits → IsCoherent (stored b) → IsNumber b.now → TakesLawful call
         → CanAllBeFollowed (rows_of_all (deeds limits choice now call b) (stored b)) (stored b) }
 
     // With the row of its moment.
-    ensures step { (limits : Limits) (choice : MemberChoice) (now : ℕ) (call : Call) (b : Broker)
+    ensures step { (limits : Capacity) (choice : MemberChoice) (now : ℕ) (call : Call) (b : Broker)
         → AreWithin limits → IsCoherent (stored b) → IsNumber b.now → TakesLawful call
         → CanAllBeFollowed
         (rows_written (deeds limits choice now call b) (at_moment now b)) (stored b) }
-    ensures opening { (limits : Limits) (choice : MemberChoice) (now : ℕ) (r : Records)
+    ensures opening { (limits : Capacity) (choice : MemberChoice) (now : ℕ) (r : Records)
         → AreWithin limits → IsCoherent r
         → CanAllBeFollowed
         (rows_written (opening_deeds limits choice now r) (unopened now r)) r }

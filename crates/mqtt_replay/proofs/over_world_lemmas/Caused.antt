@@ -2,7 +2,7 @@
 use Rattle.std.proofs.Common.{◌≡◌, sym, subst}
 use Rattle.std.specs.Prelude.{Result, IfErr, IsErrOf}
 use Rattle.mqtt_keep.specs.declared.keeping.keep.Keep.{Ghosts}
-use Rattle.mqtt_rules.specs.declared.step.Limits.{Limits}
+use Rattle.mqtt_rules.specs.declared.step.Capacity.{Capacity}
 use Rattle.mqtt_script.specs.declared.replay_fault.ReplayFault.{ReplayFault}
 use Rattle.mqtt_script.specs.declared.replay_fault.ReplayFault.TheVariants.{Read, Write, Memory, Store}
 use Rattle.mqtt_world_ends.specs.declared.peers.told.RunFault.{RunFault}
@@ -18,7 +18,7 @@ module _ {K : Type 0} (g : Ghosts K) where
   pub store_due : {T : Type 0} (r : Result T RunFault) → IfErr r (IsFaultDue g) → IsErrOf r fault.Store → IsStoreDue g
   store_due {T} r due is = subst (λ (x : Result T RunFault). IfErr x (IsFaultDue g)) is due
 
-  module _ (limits : Limits) (keep : K) where
+  module _ (limits : Capacity) (keep : K) where
     -- a world that does not begin
     pub none_began : (f : RunFault) → IsNoStart g limits 0 keep f → IsReplayDue g limits keep (ends_as f)
     none_began fault.Memory none = tt

@@ -12,7 +12,7 @@ use Rattle.mqtt_records.specs.state.Records.{nothing}
 use Rattle.mqtt_records.specs.declared.state.records.Records.{Records}
 use Rattle.mqtt_broker.specs.stored.Opening.{IsLoad}
 use Rattle.mqtt_rules.specs.step.Laws.{AreWithin}
-use Rattle.mqtt_rules.specs.declared.step.Limits.{Limits}
+use Rattle.mqtt_rules.specs.declared.step.Capacity.{Capacity}
 use Rattle.mqtt_script.specs.declared.event.Event.{Event}
 use Rattle.mqtt_script.specs.Lines.{IsLineOf, is_passed_over}
 use Rattle.mqtt_script.specs.Telling.{bad_text, publisher_text, receiver_text, broker_text}
@@ -147,7 +147,7 @@ module _ {K : Type 0} (g : Ghosts K) where
 
   -- ---- from where a world begins over a store
 
-  module _ (limits : Limits) (keep : K) (w : Lasting K) (starts : Starts g limits keep w) where
+  module _ (limits : Capacity) (keep : K) (w : Lasting K) (starts : Starts g limits keep w) where
     abbrev begun : World
     begun = opened_world limits starts.choice 0 starts.records
 
@@ -182,7 +182,7 @@ module _ {K : Type 0} (g : Ghosts K) where
         let limits_are : h.from.limits ≡ limits = ap (λ (s : Staged K). s.limits) same ∙ starts.limits_are in
         let world_is : world_at h.from ≡ begun = ap (λ (s : Staged K). world_at s) same ∙ starts.world (from_sound es ts new h sound) in
         subst (λ (x : World). RunsTo limits es ts x (world_at h.to)) world_is
-        (subst (λ (l : Limits). RunsTo l es ts (world_at h.from) (world_at h.to)) limits_are (h.runs.runs sound came.reached came.knowing))
+        (subst (λ (l : Capacity). RunsTo l es ts (world_at h.from) (world_at h.to)) limits_are (h.runs.runs sound came.reached came.knowing))
 
     runs_lines : (lines : List (List ℕ)) (text : List ℕ) (end : Standing (Lasting K)) → (c : Comes g lines (start w) text end)
         → IsSoundAt g c.happen.to → RunsLines limits lines begun text c.events (world_at c.happen.to)
@@ -276,33 +276,33 @@ module _ {K : Type 0} (g : Ghosts K) where
         ))
 
   -- what was shown of lines that play in a world over a store is the text of that store's world
-  pub replays_over : (limits : Limits) (keep : K) (w : Lasting K) (lines : List (List ℕ)) (before after : Option (List ℕ)) (played : Played)
+  pub replays_over : (limits : Capacity) (keep : K) (w : Lasting K) (lines : List (List ℕ)) (before after : Option (List ℕ)) (played : Played)
       → Starts g limits keep w → Shows (play_of g) lines (start w) before after played → ReplaysOver g limits keep lines before after played
   replays_over limits keep w lines before after played starts shows = text_of limits keep w starts lines before after played shows
 
   -- a front that was shown of lines in a world over a store is one of that world's text
-  pub front_over : (limits : Limits) (keep : K) (w : Lasting K) (lines : List (List ℕ)) (before after : Option (List ℕ))
+  pub front_over : (limits : Capacity) (keep : K) (w : Lasting K) (lines : List (List ℕ)) (before after : Option (List ℕ))
       → Starts g limits keep w → ShowsFront (play_of g) lines (start w) before after → FrontOver g limits keep lines before after
   front_over limits keep w lines before after starts shows = front_of limits keep w starts lines before after shows
 
   -- ---- of a reader that tells what is left
 
   -- the same of an input that is told, with its lines
-  pub replays_seen : (limits : Limits) (keep : K) (w : Lasting K) (input : Option (List ℕ)) (before after : Option (List ℕ)) (played : Played)
+  pub replays_seen : (limits : Capacity) (keep : K) (w : Lasting K) (input : Option (List ℕ)) (before after : Option (List ℕ)) (played : Played)
       → Starts g limits keep w → IfSome input (λ bytes. Replays (play_of g) w bytes before after played)
       → IfSome input (λ bytes. ReplaysOver g limits keep (lines_of bytes) before after played)
   replays_seen limits keep w None before after played starts shows = tt
   replays_seen limits keep w (Some bytes) before after played starts shows = replays_over limits keep w (lines_of bytes) before after played starts shows
 
   -- the same of an input that is told: nothing was written, or a front
-  pub front_seen : (limits : Limits) (keep : K) (w : Lasting K) (input : Option (List ℕ)) (before after : Option (List ℕ))
+  pub front_seen : (limits : Capacity) (keep : K) (w : Lasting K) (input : Option (List ℕ)) (before after : Option (List ℕ))
       → Starts g limits keep w → IfSome input (λ bytes. ReplaysFront (play_of g) w bytes before after)
       → IfSome input (λ bytes. Keeps before after ⊎ FrontOver g limits keep (lines_of bytes) before after)
   front_seen limits keep w None before after starts shows = tt
   front_seen limits keep w (Some bytes) before after starts shows = inr (front_over limits keep w (lines_of bytes) before after starts shows)
 
 -- nothing was written, and nothing ran
-nothing_runs : (limits : Limits) (w : World) → RunsLines limits [] w [] [] w
+nothing_runs : (limits : Capacity) (w : World) → RunsLines limits [] w [] [] w
 nothing_runs limits w = record {
   are = refl;
   tells = [];
@@ -312,14 +312,14 @@ nothing_runs limits w = record {
 }
 
 -- if nothing was written a front of the text was
-pub front_none : (limits : Limits) (lines : List (List ℕ)) (before after : Option (List ℕ)) → Keeps before after
+pub front_none : (limits : Capacity) (lines : List (List ℕ)) (before after : Option (List ℕ)) → Keeps before after
     → Wrote (λ text. FrontText limits start_world lines text) before after
 front_none limits lines before after kept =
     ([], ([], lines, [], start_world, refl, nothing_runs limits start_world), Appends-kept before before after [] (Appends-nil before) kept)
 
 -- ---- over a store that has nothing, and whose device always returns what was written
 
-module _ {K : Type 0} (g : Ghosts K) (sound : (keep : K) → g.is_sound keep) (limits : Limits) (within : AreWithin limits) (keep : K) (empty : g.holds keep nothing) where
+module _ {K : Type 0} (g : Ghosts K) (sound : (keep : K) → g.is_sound keep) (limits : Capacity) (within : AreWithin limits) (keep : K) (empty : g.holds keep nothing) where
   records_none : (r : Records) (loaded : K) → IsLoad g keep r loaded → r ≡ nothing
   records_none r loaded load = load.exact nothing empty (sound loaded)
 
@@ -349,13 +349,13 @@ module _ {K : Type 0} (g : Ghosts K) (sound : (keep : K) → g.is_sound keep) (l
 -- nothing was written, whatever a reader would give
 
 -- if nothing was written over a store, too
-pub kept_seen : {K : Type 0} (g : Ghosts K) (limits : Limits) (keep : K) (input before : Option (List ℕ))
+pub kept_seen : {K : Type 0} (g : Ghosts K) (limits : Capacity) (keep : K) (input before : Option (List ℕ))
     → IfSome input (λ bytes. Keeps before before ⊎ FrontOver g limits keep (lines_of bytes) before before)
 kept_seen g limits keep None before = tt
 kept_seen g limits keep (Some bytes) before = inl (Keeps-refl before)
 
 -- a front of the text over a store is one from its records
-pub front_kept : (limits : Limits) (input before : Option (List ℕ)) → AreWithin limits
+pub front_kept : (limits : Capacity) (input before : Option (List ℕ)) → AreWithin limits
     → IfSome input (λ bytes. Wrote (λ text. FrontText limits start_world (lines_of bytes) text) before before)
 front_kept limits None before within = tt
 front_kept limits (Some bytes) before within = front_none limits (lines_of bytes) before before (Keeps-refl before)

@@ -11,7 +11,7 @@ use Rattle.mqtt_world_model.specs.model.World.{World}
 use Rattle.mqtt_broker.specs.stored.Opening.{IsLoad}
 use Rattle.mqtt_rules.specs.step.State.{MemberChoice}
 use Rattle.mqtt_rules.specs.step.Step.{is_opening_spent}
-use Rattle.mqtt_rules.specs.declared.step.Limits.{Limits}
+use Rattle.mqtt_rules.specs.declared.step.Capacity.{Capacity}
 use Rattle.mqtt_script.specs.declared.event.Event.{Event}
 use Rattle.mqtt_script.specs.BadLines.{why_no_event}
 use Rattle.mqtt_script.specs.declared.bad_line.BadReason.{BadReason}
@@ -70,7 +70,7 @@ last_lines_in es w =
 -- ---- lines of a script run from one world to another, and are told so; and exactly-once delivery holds of it, if nobody was
 -- there at first, of whatever fair turns they came to (3.1.2.4, 3.3.4, 4.3, 4.4, 4.6, 4.8, 4.9)
 
-pub record RunsLines (limits : Limits) (lines : List (List ℕ)) (w : World) (text : List ℕ) (events : List Event) (after : World) : Type 0 where
+pub record RunsLines (limits : Capacity) (lines : List (List ℕ)) (w : World) (text : List ℕ) (events : List Event) (after : World) : Type 0 where
   pub are : AreEventsOf lines events
   pub tells : List Telling
   pub runs : RunsTo limits events tells w after
@@ -80,7 +80,7 @@ pub record RunsLines (limits : Limits) (lines : List (List ℕ)) (w : World) (te
 -- ---- the text of a script from a world on: all its lines run, and what they came to stands behind; or those before a bad line do,
 -- and the number that its event would have. Of the bad line the number is answered, counted from 1 among all lines, and the reason
 
-abbrev pub ReplayText : Limits → World → List (List ℕ) → List ℕ → Played → Type 0
+abbrev pub ReplayText : Capacity → World → List (List ℕ) → List ℕ → Played → Type 0
 ReplayText limits w lines text Whole =
     (front : List ℕ) × (events : List Event) × (after : World) × RunsLines limits lines w front events after
     × (text ≡ front ++ last_lines_in events after)
@@ -91,7 +91,7 @@ ReplayText limits w lines text (Bad bad) =
     × (text ≡ front ++ bad_text (length events + 1))
 
 -- a beginning of it: that of lines with which the script begins
-abbrev pub FrontText : Limits → World → List (List ℕ) → List ℕ → Type 0
+abbrev pub FrontText : Capacity → World → List (List ℕ) → List ℕ → Type 0
 FrontText limits w lines text =
     (good rest : List (List ℕ)) × (events : List Event) × (after : World)
     × (lines ≡ good ++ rest) × RunsLines limits good w text events after
@@ -104,7 +104,7 @@ Wrote IsText before after = (text : List ℕ) × IsText text × Appends before a
 -- packet identifiers from 1, of two bytes; and this holds of the world in which it stands, if the device, as the store was left,
 -- has returned what was written (2.2.1, 4.1)
 
-pub record OpensOver {K : Type 0} (g : Ghosts K) (limits : Limits) (keep : K) (Holds : World → Type 0) : Type 0 where
+pub record OpensOver {K : Type 0} (g : Ghosts K) (limits : Capacity) (keep : K) (Holds : World → Type 0) : Type 0 where
   pub loaded : K
   pub records : Records
   pub load : IsLoad g keep records loaded
@@ -116,10 +116,10 @@ pub record OpensOver {K : Type 0} (g : Ghosts K) (limits : Limits) (keep : K) (H
   pub sound : g.is_sound left → g.is_sound loaded
   pub holds : g.is_sound left → Holds (opened_world limits choice 0 records)
 
-abbrev pub ReplaysOver : {K : Type 0} → Ghosts K → Limits → K → List (List ℕ) → Option (List ℕ) → Option (List ℕ) → Played → Type 0
+abbrev pub ReplaysOver : {K : Type 0} → Ghosts K → Capacity → K → List (List ℕ) → Option (List ℕ) → Option (List ℕ) → Played → Type 0
 ReplaysOver g limits keep lines before after played =
     OpensOver g limits keep (λ w. Wrote (λ text. ReplayText limits w lines text played) before after)
 
-abbrev pub FrontOver : {K : Type 0} → Ghosts K → Limits → K → List (List ℕ) → Option (List ℕ) → Option (List ℕ) → Type 0
+abbrev pub FrontOver : {K : Type 0} → Ghosts K → Capacity → K → List (List ℕ) → Option (List ℕ) → Option (List ℕ) → Type 0
 FrontOver g limits keep lines before after =
     OpensOver g limits keep (λ w. Wrote (λ text. FrontText limits w lines text) before after)

@@ -1,6 +1,6 @@
 //! The replay of the script in a file, for the program (ours).
 
-ghost use Rattle.mqtt_rules.specs.step.Laws.{AreWithin};
+ghost use Rattle.mqtt_rules.specs.step.Laws.{AreWithin, unasked};
 
 use crate::over_world::replaying::replay;
 use mqtt_rules::Limits;
@@ -16,7 +16,7 @@ fn replay_of<R: Read + Drop, W: Write>(
     writer: &mut W,
     limits: Limits,
 ) -> Result<Played, ReplayFault>
-    requires within { AreWithin limits }
+    requires within { AreWithin (unasked limits) }
 {
     match RandomState::new(rt) {
         Ok(hasher) => replay(rt.alloc(), hasher, &mut reader, writer, limits),
@@ -32,7 +32,7 @@ pub fn replay_at<W: Write>(
     writer: &mut W,
     limits: Limits,
 ) -> Result<Played, ReplayFault>
-    requires within { AreWithin limits }
+    requires within { AreWithin (unasked limits) }
 {
     if file == "-" {
         return replay_of(rt, rt.reader(), writer, limits);

@@ -2,7 +2,7 @@
 
 ghost use Rattle.std.specs.Prelude.{◌≡◌, ◌≢◌, ◌⊎◌, IfErr, IfOk, IfSome};
 ghost use Rattle.std.specs.Io.KnownBytes.{Keeps};
-ghost use Rattle.mqtt_rules.specs.step.Laws.{AreWithin};
+ghost use Rattle.mqtt_rules.specs.step.Laws.{AreWithin, unasked};
 ghost use Rattle.mqtt_world_laws.specs.headline.Lives.{BeginsWell};
 ghost use Rattle.mqtt_world_model.specs.model.World.{start};
 ghost use Rattle.mqtt_replay.specs.playing.Replaying.{lines_of};
@@ -42,15 +42,15 @@ pub fn replay_over<K: Keep, R: Read, W: Write>(
     writer: &mut W,
     limits: Limits,
 ) -> Result<Played, ReplayFault>
-    requires within { AreWithin limits }
+    requires within { AreWithin (unasked limits) }
     ensures ok { IfOk result (λ played. IfSome (R.remaining reader.old) (λ input.
-        ReplaysOver K.Keep limits keep (lines_of input) (W.contents writer.old) (W.contents writer.new) played)) }
+        ReplaysOver K.Keep (unasked limits) keep (lines_of input) (W.contents writer.old) (W.contents writer.new) played)) }
     ensures err { IfErr result (λ fault. fault ≢ ReplayFault.Write
         → IfSome (R.remaining reader.old) (λ input. Keeps (W.contents writer.old) (W.contents writer.new)
-        ⊎ FrontOver K.Keep limits keep (lines_of input) (W.contents writer.old) (W.contents writer.new))) }
+        ⊎ FrontOver K.Keep (unasked limits) keep (lines_of input) (W.contents writer.old) (W.contents writer.new))) }
 
     // `Store` has a cause: the broker was not opened on what is stored, or one that the world tells.
-    ensures cause { IfErr result (IsReplayDue K.Keep limits keep) }
+    ensures cause { IfErr result (IsReplayDue K.Keep (unasked limits) keep) }
 {
     match World::new(alloc, keep, limits, hasher) {
         Ok(world) => crate::playing::replay(alloc, Playing::new(world), reader, writer),
@@ -67,16 +67,16 @@ pub fn replay<R: Read, W: Write>(
     writer: &mut W,
     limits: Limits,
 ) -> Result<Played, ReplayFault>
-    requires within { AreWithin limits }
+    requires within { AreWithin (unasked limits) }
     ensures ok { IfOk result (λ played. IfSome (R.remaining reader.old) (λ input.
-        Wrote (λ text. ReplayText limits start (lines_of input) text played)
+        Wrote (λ text. ReplayText (unasked limits) start (lines_of input) text played)
         (W.contents writer.old) (W.contents writer.new))) }
     ensures err { IfErr result (λ fault. fault ≢ ReplayFault.Write
-        → IfSome (R.remaining reader.old) (λ input. Wrote (λ text. FrontText limits start (lines_of input) text)
+        → IfSome (R.remaining reader.old) (λ input. Wrote (λ text. FrontText (unasked limits) start (lines_of input) text)
         (W.contents writer.old) (W.contents writer.new))) }
 
     // Nobody is there at first, so exactly-once delivery holds of whatever is replayed.
-    ensures untouched { BeginsWell limits start }
+    ensures untouched { BeginsWell (unasked limits) start }
 {
     let keep = MemKeep::new(alloc)?;
     replay_over(alloc, keep, hasher, reader, writer, limits)

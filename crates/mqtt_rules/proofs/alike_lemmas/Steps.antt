@@ -8,7 +8,7 @@ use Rattle.mqtt_records.specs.declared.state.change.Change.{Change}
 use Rattle.mqtt_records.specs.declared.state.records.Records.{Records}
 use Rattle.mqtt_records.specs.declared.state.session.Session.{Session}
 use Rattle.mqtt_records.specs.state.Records.{changed_all}
-use Rattle.mqtt_rules.specs.declared.step.Limits.{Limits}
+use Rattle.mqtt_rules.specs.declared.step.Capacity.{Capacity}
 use Rattle.mqtt_rules.specs.declared.step.Report.TheVariants as reports
 use Rattle.mqtt_rules.specs.step.Deeds.{Deed, Send, after_all, rows_of, rows_of_all, stored_after, output, closing, report}
 use Rattle.mqtt_rules.specs.step.Fitting.{pump_turns}
@@ -118,7 +118,7 @@ may_call (Lost n) = tt
 may_call (Pump n) = tt
 may_call Tick = tt
 
-module _ (limits : Limits) (choice : MemberChoice) (now : ℕ) where
+module _ (limits : Capacity) (choice : MemberChoice) (now : ℕ) where
   put_deeds : (call : Call) (b : Broker) (ss : List Session) → Each AlikeSessions b.records.sessions ss → Each (AlikeDeeds (IsPump call)) (deeds limits choice now call b) (deeds limits choice now call (like ss b))
   put_deeds call b ss h = (call_alike (IsPump call) (env_of limits choice b) ss call (may_call call)).does (at_moment now b) ss h
 

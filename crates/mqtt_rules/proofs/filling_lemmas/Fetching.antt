@@ -11,7 +11,7 @@ use Rattle.mqtt_records.specs.state.Session.{birth_of, copy_place}
 use Rattle.mqtt_records.specs.declared.state.session.Session.{Session}
 use Rattle.mqtt_records.specs.declared.state.records.Records.{Records}
 use Rattle.mqtt_records.specs.lists.Order.{row_at, change_row}
-use Rattle.mqtt_rules.specs.declared.step.Limits.{Limits}
+use Rattle.mqtt_rules.specs.declared.step.Capacity.{Capacity}
 use Rattle.mqtt_rules.specs.step.State.{Broker, MemberChoice, line_at}
 use Rattle.mqtt_rules.specs.step.Step.{Pump, at_moment, told}
 use Rattle.mqtt_rules.specs.alike.Alike.{Each, AlikeRows, AlikeSessions, AlikeBrokers, with_sessions}
@@ -136,7 +136,7 @@ module _ (fillings : Fillings) (now line : ℕ) where
       (all_filled fillings places (birth_on (line_at line b)) b.records places (all_among places))
 
   -- a pump whose rows are filled that it sends tells what the whole broker's tells
-  pub filled_pump_tells : (limits : Limits) (choice : MemberChoice) (b c : Broker) → AlikeBrokers b c → AreFilledBy fillings c.records
+  pub filled_pump_tells : (limits : Capacity) (choice : MemberChoice) (b c : Broker) → AlikeBrokers b c → AreFilledBy fillings c.records
       → told limits choice now (Pump line) (filled_for_pump fillings now line b) ≡ told limits choice now (Pump line) c
   filled_pump_tells limits choice b c h k =
       let ready = filled_for_pump fillings now line b in

@@ -11,7 +11,7 @@ use Rattle.mqtt_records.specs.state.Session.{birth_of, copy_place}
 use Rattle.mqtt_records.specs.declared.state.session.Session.{Session}
 use Rattle.mqtt_records.specs.declared.state.records.Records.{Records}
 use Rattle.mqtt_records.specs.lists.Order.{row_at}
-use Rattle.mqtt_rules.specs.declared.step.Limits.{Limits}
+use Rattle.mqtt_rules.specs.declared.step.Capacity.{Capacity}
 use Rattle.mqtt_rules.specs.step.Deeds.{whose, Deed, At, On, Send, Mark, Went, always, with_line, with_session}
 use Rattle.mqtt_rules.specs.step.Fitting.{pump_turns}
 use Rattle.mqtt_rules.specs.step.Inbound.{pump_deeds}
@@ -98,7 +98,7 @@ line_pump : (o : Option Line) (b : Broker) (ss : List Session) → Each AlikeSes
 line_pump None b ss h k = tt
 line_pump (Some l) b ss h k = pump_on l b ss h l.session k
 
-module _ (limits : Limits) (choice : MemberChoice) (now line : ℕ) where
+module _ (limits : Capacity) (choice : MemberChoice) (now line : ℕ) where
   pump_deeds_whole : (b c : Broker) → AlikeBrokers b c → HasWholeTurns now line b c → Each (AlikeDeeds ⊥) (deeds limits choice now (Pump line) b) (deeds limits choice now (Pump line) c)
   pump_deeds_whole b c h k =
       by_broker (λ (x : Broker). HasWholeTurns now line b x → Each (AlikeDeeds ⊥) (deeds limits choice now (Pump line) b) (deeds limits choice now (Pump line) x)) b

@@ -3,7 +3,7 @@ use Rattle.std.proofs.Common.{◌≡◌, ℕ, List, ap, ◌∙◌}
 use Rattle.mqtt_records.specs.state.Records.{changed_all}
 use Rattle.mqtt_records.specs.declared.state.change.Change.{Change}
 use Rattle.mqtt_records.specs.declared.state.records.Records.{Records}
-use Rattle.mqtt_rules.specs.declared.step.Limits.{Limits}
+use Rattle.mqtt_rules.specs.declared.step.Capacity.{Capacity}
 use Rattle.mqtt_rules.specs.step.State.{Broker, MemberChoice}
 use Rattle.mqtt_rules.specs.step.Step.{Call, at_moment, deeds, env_of, stepped, told, rows_written, stamped, is_spent, opened, opening_deeds, unopened, is_opening_spent}
 use Rattle.mqtt_rules.proofs.step_lemmas.fit.StoredLaw.{rows_store}
@@ -20,7 +20,7 @@ use Rattle.mqtt_rules.proofs.filling_lemmas.Tellings.{outcome_same}
 pub moment_alike : (now : ℕ) (b c : Broker) → AlikeBrokers b c → AlikeBrokers (at_moment now b) (at_moment now c)
 moment_alike now b c h = by_broker (λ (x : Broker). AlikeBrokers (at_moment now b) (at_moment now x)) b (λ ss k. broker_put (at_moment now b) ss k) c h
 
-module _ (limits : Limits) (choice : MemberChoice) (now : ℕ) where
+module _ (limits : Capacity) (choice : MemberChoice) (now : ℕ) where
   -- what a step leaves, filled, is what the step on the whole broker leaves
   pub step_whole : (call : Call) (fillings : Fillings) (b c : Broker) → AlikeBrokers b c → AreFilledBy fillings (stepped limits choice now call c).records
       → filled fillings (stepped limits choice now call b) ≡ stepped limits choice now call c

@@ -449,7 +449,7 @@ module _ (env : Env) where
 
   -- a call names the topic of each PUBLISH that it sends
   pub call_names : (call : Call) → NamesAct (deeds_of env call)
-  call_names NewLine b = names_cond (can_link b) (Link (suc b.given) ∷ []) [] b (naming (Link (suc b.given) ∷ []) b (tt, tt)) (naming [] b tt)
+  call_names NewLine b = names_cond (can_link env.limits b) (Link (suc b.given) ∷ []) [] b (naming (Link (suc b.given) ∷ []) b (tt, tt)) (naming [] b tt)
   call_names (Input n packet) b =
       on_its_line n (λ l. series (always (On n Hear ∷ []) ∷ on_packet env l packet l.session ∷ [])) b
       (λ l names. acts (always (On n Hear ∷ []) ∷ on_packet env l packet l.session ∷ []) (always_names (On n Hear ∷ []) (tt, tt), (reading l packet l.session names, tt)) b)

@@ -10,7 +10,7 @@ use Rattle.mqtt_rules.specs.step.Contents.{HasContents, HasLawfulContents, IsCop
 use Rattle.mqtt_rules.specs.step.Deeds.{after_all, rows_of_all, wires}
 use Rattle.mqtt_rules.specs.step.State.{Broker, MemberChoice, told_on}
 use Rattle.mqtt_rules.specs.step.Step.{Call, at_moment, deeds, env_of, opened, opening_deeds, stepped, told, unopened, with_moment}
-use Rattle.mqtt_rules.specs.declared.step.Limits.{Limits}
+use Rattle.mqtt_rules.specs.declared.step.Capacity.{Capacity}
 use Rattle.mqtt_rules.proofs.granting_lemmas.Acts.{call_names, opening_names}
 use Rattle.mqtt_rules.proofs.granting_lemmas.Blocks.{passed_is_unaliased}
 use Rattle.mqtt_rules.proofs.granting_lemmas.Deeds.{AllName, kept_all, sends_topics, sends_users}
@@ -64,7 +64,7 @@ moment_tellings (row ∷ rows) b = refl
 later_named : (now : ℕ) (b : Broker) → NamesTopics b → NamesTopics (at_moment now b)
 later_named now b h = record { stored = h.stored; lines = h.lines }
 
-module _ (limits : Limits) (choice : MemberChoice) (now : ℕ) where
+module _ (limits : Capacity) (choice : MemberChoice) (now : ℕ) where
   step_names : (call : Call) (b : Broker) → NamesTopics b → AllName (deeds limits choice now call b)
   step_names call b h = call_names (env_of limits choice b) call (at_moment now b) (later_named now b h)
 

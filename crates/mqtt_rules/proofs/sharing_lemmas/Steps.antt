@@ -10,7 +10,7 @@ use Rattle.mqtt_records.specs.state.Records.{changed, changed_all, nothing}
 use Rattle.mqtt_records.specs.state.Members.{Has}
 use Rattle.mqtt_records.specs.state.Contents.{StoredMessage, IsMessageOf, SharesContents, FitContents}
 use Rattle.mqtt_keep.proofs.contents_lemmas.Nothing.{nothing_shared}
-use Rattle.mqtt_rules.specs.declared.step.Limits.{Limits}
+use Rattle.mqtt_rules.specs.declared.step.Capacity.{Capacity}
 use Rattle.mqtt_rules.specs.step.State.{Broker, MemberChoice, stored}
 use Rattle.mqtt_rules.specs.step.Deeds.{Deed, rows_of, rows_of_all, stored_after, after, after_all}
 use Rattle.mqtt_rules.specs.step.Step.{Call, deeds, at_moment, env_of, stamp_of, stamped, with_moment, rows_written, stepped, opening_deeds, unopened, opened}
@@ -85,29 +85,29 @@ left_shared ds b led = stamped_shares (rows_of_all ds b.records) (after_all ds b
 
 -- ---- steps and openings
 
-step_leads : (limits : Limits) (choice : MemberChoice) (now : ℕ) (call : Call) (b : Broker) → SharesContents (stored b) → HasAcceptedNumbers (stored b) → Leads Keeps HasFittingRows (deeds limits choice now call b) (at_moment now b)
+step_leads : (limits : Capacity) (choice : MemberChoice) (now : ℕ) (call : Call) (b : Broker) → SharesContents (stored b) → HasAcceptedNumbers (stored b) → Leads Keeps HasFittingRows (deeds limits choice now call b) (at_moment now b)
 step_leads limits choice now call b shared h = call_leads (env_of limits choice b) call (at_moment now b) (keeps (at_moment now b) shared h)
 
-opened_leads : (limits : Limits) (choice : MemberChoice) (now : ℕ) (r : Records) → SharesContents r → HasAcceptedNumbers r → Leads Keeps HasFittingRows (opening_deeds limits choice now r) (unopened now r)
+opened_leads : (limits : Capacity) (choice : MemberChoice) (now : ℕ) (r : Records) → SharesContents r → HasAcceptedNumbers r → Leads Keeps HasFittingRows (opening_deeds limits choice now r) (unopened now r)
 opened_leads limits choice now r shared h = let b = unopened now r in opening_leads (env_of limits choice b) b (keeps b shared h)
 
 -- each row of a step says what is said under its number
-pub step_fits : (limits : Limits) (choice : MemberChoice) (now : ℕ) (call : Call) (b : Broker) → SharesContents (stored b) → HasAcceptedNumbers (stored b)
+pub step_fits : (limits : Capacity) (choice : MemberChoice) (now : ℕ) (call : Call) (b : Broker) → SharesContents (stored b) → HasAcceptedNumbers (stored b)
     → FitContents (rows_written (deeds limits choice now call b) (at_moment now b)) (stored b)
 step_fits limits choice now call b shared h = rows_fit (deeds limits choice now call b) (at_moment now b) (step_leads limits choice now call b shared h)
 
 -- contents stay shared by a step
-pub step_shared : (limits : Limits) (choice : MemberChoice) (now : ℕ) (call : Call) (b : Broker) → SharesContents (stored b) → HasAcceptedNumbers (stored b)
+pub step_shared : (limits : Capacity) (choice : MemberChoice) (now : ℕ) (call : Call) (b : Broker) → SharesContents (stored b) → HasAcceptedNumbers (stored b)
     → SharesContents (stored (stepped limits choice now call b))
 step_shared limits choice now call b shared h = left_shared (deeds limits choice now call b) (at_moment now b) (step_leads limits choice now call b shared h)
 
 -- each row of an opening says what is said under its number
-pub opening_fits : (limits : Limits) (choice : MemberChoice) (now : ℕ) (r : Records) → SharesContents r → HasAcceptedNumbers r
+pub opening_fits : (limits : Capacity) (choice : MemberChoice) (now : ℕ) (r : Records) → SharesContents r → HasAcceptedNumbers r
     → FitContents (rows_written (opening_deeds limits choice now r) (unopened now r)) r
 opening_fits limits choice now r shared h = rows_fit (opening_deeds limits choice now r) (unopened now r) (opened_leads limits choice now r shared h)
 
 -- contents stay shared by an opening
-pub opening_shared : (limits : Limits) (choice : MemberChoice) (now : ℕ) (r : Records) → SharesContents r → HasAcceptedNumbers r
+pub opening_shared : (limits : Capacity) (choice : MemberChoice) (now : ℕ) (r : Records) → SharesContents r → HasAcceptedNumbers r
     → SharesContents (stored (opened limits choice now r))
 opening_shared limits choice now r shared h = left_shared (opening_deeds limits choice now r) (unopened now r) (opened_leads limits choice now r shared h)
 

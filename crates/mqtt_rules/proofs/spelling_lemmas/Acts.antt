@@ -641,7 +641,7 @@ module _ (env : Env) where
 
   -- what a call with a lawful packet sends has a spelling
   pub call_said : (call : Call) (b : Broker) → TakesLawful call → TellsFault call → AllByRecursion HasTopics b.lines → IsOrdered b.records → Says (deeds_of env call b) b
-  call_said NewLine b taken tells topics ordered = says_cond (can_link b) (Link (suc b.given) ∷ []) [] b (saying (Link (suc b.given) ∷ []) b (tt, tt)) (saying [] b tt)
+  call_said NewLine b taken tells topics ordered = says_cond (can_link env.limits b) (Link (suc b.given) ∷ []) [] b (saying (Link (suc b.given) ∷ []) b (tt, tt)) (saying [] b tt)
   call_said (Input n packet) b taken tells topics ordered =
       on_its_line (line_at n b) (λ l. series (always (On n Hear ∷ []) ∷ on_packet env l packet l.session ∷ [])) b
       (λ l e. acts (always (On n Hear ∷ []) ∷ on_packet env l packet l.session ∷ []) (always_said (On n Hear ∷ []) (tt, tt), (reading l packet l.session taken (all_among HasTopics l b.lines topics (found_among _ l b.lines e)), tt)) b)

@@ -15,7 +15,7 @@ use Rattle.mqtt_rules.specs.step.Laws.{IsOrdered}
 use Rattle.mqtt_rules.specs.step.Piece.{Front, begins_connect, call_by, code_of, first_call}
 use Rattle.mqtt_rules.specs.step.State.{Broker, MemberChoice, stored}
 use Rattle.mqtt_rules.specs.step.Step.{Call, Input, BadInput, at_moment, deeds, env_of, is_opening_spent, is_step_spent, opened, opening_deeds, stepped, told, unopened, with_moment}
-use Rattle.mqtt_rules.specs.declared.step.Limits.{Limits}
+use Rattle.mqtt_rules.specs.declared.step.Capacity.{Capacity}
 use Rattle.mqtt_rules.proofs.step_lemmas.contents.ContentLaw.{opening_brings, opening_contents, step_brings, step_contents}
 use Rattle.mqtt_rules.proofs.step_lemmas.contents.LawfulContents.{lawful_contents}
 use Rattle.mqtt_rules.proofs.step_lemmas.fit.LawfulRecords.{lawful_coherent}
@@ -45,7 +45,7 @@ outputs_spelled (Gone n ∷ ds) h = outputs_spelled ds h.1
 abbrev Spoken : List Deed → Broker → Type 0
 Spoken ds b = AreSaid ds × Writes ds b
 
-step_spoken : (limits : Limits) (choice : MemberChoice) (now : ℕ) (call : Call) (b : Broker) → is_step_spent limits choice now call b ≡ false → TakesLawful call → TellsFault call → AreContentsLawful b → IsOrdered (stored b) → HaveSentPhases (stored b)
+step_spoken : (limits : Capacity) (choice : MemberChoice) (now : ℕ) (call : Call) (b : Broker) → is_step_spent limits choice now call b ≡ false → TakesLawful call → TellsFault call → AreContentsLawful b → IsOrdered (stored b) → HaveSentPhases (stored b)
     → Spoken (deeds limits choice now call b) (at_moment now b)
 step_spoken limits choice now call b unspent taken tells contents ordered phases =
     let c = at_moment now b in
@@ -54,7 +54,7 @@ step_spoken limits choice now call b unspent taken tells contents ordered phases
     (call_said (env_of limits choice b) call c taken tells contents.lines ordered (record { contents = contents.stored; phases = phases }) rows, rows)
 
 -- all that a step tells has a spelling
-pub step_spelled : (limits : Limits) (choice : MemberChoice) (now : ℕ) (call : Call) (b : Broker) → is_step_spent limits choice now call b ≡ false → TakesLawful call → TellsFault call → AreContentsLawful b → IsOrdered (stored b) → HaveSentPhases (stored b)
+pub step_spelled : (limits : Capacity) (choice : MemberChoice) (now : ℕ) (call : Call) (b : Broker) → is_step_spent limits choice now call b ≡ false → TakesLawful call → TellsFault call → AreContentsLawful b → IsOrdered (stored b) → HaveSentPhases (stored b)
     → AllByRecursion (λ (x : ℕ × Packet). HasSpelling x.1) (told limits choice now call b).outputs
 step_spelled limits choice now call b unspent taken tells contents ordered phases =
     outputs_spelled (deeds limits choice now call b) (step_spoken limits choice now call b unspent taken tells contents ordered phases).0
@@ -64,7 +64,7 @@ moment_phases [] b h = h
 moment_phases (row ∷ rows) b h = h
 
 -- behind a step copies in flight have packet identifiers
-pub step_phases : (limits : Limits) (choice : MemberChoice) (now : ℕ) (call : Call) (b : Broker) → is_step_spent limits choice now call b ≡ false → TakesLawful call → TellsFault call → AreContentsLawful b → IsOrdered (stored b) → HaveSentPhases (stored b)
+pub step_phases : (limits : Capacity) (choice : MemberChoice) (now : ℕ) (call : Call) (b : Broker) → is_step_spent limits choice now call b ≡ false → TakesLawful call → TellsFault call → AreContentsLawful b → IsOrdered (stored b) → HaveSentPhases (stored b)
     → HaveSentPhases (stored (stepped limits choice now call b))
 step_phases limits choice now call b unspent taken tells contents ordered phases =
     let c = at_moment now b in
@@ -73,7 +73,7 @@ step_phases limits choice now call b unspent taken tells contents ordered phases
     moment_phases (rows_of_all ds c.records) (after_all ds c) (fine_all ds c (record { contents = contents.stored; phases = phases }) its.1 its.0).phases
 
 -- so they have behind an opening
-pub opening_phases : (limits : Limits) (choice : MemberChoice) (now : ℕ) (r : Records) → is_opening_spent limits choice now r ≡ false → HasLawfulContents r → HaveSentPhases r → HaveSentPhases (stored (opened limits choice now r))
+pub opening_phases : (limits : Capacity) (choice : MemberChoice) (now : ℕ) (r : Records) → is_opening_spent limits choice now r ≡ false → HasLawfulContents r → HaveSentPhases r → HaveSentPhases (stored (opened limits choice now r))
 opening_phases limits choice now r unspent contents phases =
     let c = unopened now r in
     let ds = opening_deeds limits choice now r in
@@ -93,10 +93,10 @@ bytes_tell line bytes call e = tells_by line bytes (first_of bytes) call e
 
 -- ---- however it goes on
 
-abbrev OpensOf : Limits → MemberChoice → ℕ → Records → Type 0
+abbrev OpensOf : Capacity → MemberChoice → ℕ → Records → Type 0
 OpensOf limits choice now r = is_opening_spent limits choice now r ≡ false
 
-well_opened : (limits : Limits) (choice : MemberChoice) (now : ℕ) (r : Records) → OpensOf limits choice now r → HasLawfulContents r → IsOrdered r → HaveSentPhases r → SendsWell (opened limits choice now r)
+well_opened : (limits : Capacity) (choice : MemberChoice) (now : ℕ) (r : Records) → OpensOf limits choice now r → HasLawfulContents r → IsOrdered r → HaveSentPhases r → SendsWell (opened limits choice now r)
 well_opened limits choice now r unspent contents ordered phases = record {
   contents = opening_contents of_rows rows_are limits choice now r contents;
   ordered = opening-ordered limits choice now r ordered;
@@ -104,15 +104,15 @@ well_opened limits choice now r unspent contents ordered phases = record {
 }
 
 -- a broker that opens over what a store may hold sends well
-pub well_begun : (limits : Limits) (choice : MemberChoice) (now : ℕ) (r : Records) → OpensOf limits choice now r → IsLawful r → HaveSentPhases r → SendsWell (opened limits choice now r)
+pub well_begun : (limits : Capacity) (choice : MemberChoice) (now : ℕ) (r : Records) → OpensOf limits choice now r → IsLawful r → HaveSentPhases r → SendsWell (opened limits choice now r)
 well_begun limits choice now r unspent lawful phases = well_opened limits choice now r unspent (lawful_contents r lawful) (lawful_coherent r lawful).ordered phases
 
 -- so does one that opens again
-pub well_reopened : (limits : Limits) (choice : MemberChoice) (now : ℕ) (b : Broker) → OpensOf limits choice now (stored b) → SendsWell b → SendsWell (opened limits choice now (stored b))
+pub well_reopened : (limits : Capacity) (choice : MemberChoice) (now : ℕ) (b : Broker) → OpensOf limits choice now (stored b) → SendsWell b → SendsWell (opened limits choice now (stored b))
 well_reopened limits choice now b unspent h = well_opened limits choice now (stored b) unspent h.contents.stored h.ordered h.phases
 
 -- and one behind a step
-pub well_stepped : (limits : Limits) (choice : MemberChoice) (now : ℕ) (call : Call) (b : Broker) → IsAsked limits choice now call b → SendsWell b → SendsWell (stepped limits choice now call b)
+pub well_stepped : (limits : Capacity) (choice : MemberChoice) (now : ℕ) (call : Call) (b : Broker) → IsAsked limits choice now call b → SendsWell b → SendsWell (stepped limits choice now call b)
 well_stepped limits choice now call b a h = record {
   contents = step_contents of_rows rows_are limits choice now call b a.taken h.contents;
   ordered = step-ordered limits choice now call b h.ordered;
@@ -120,6 +120,6 @@ well_stepped limits choice now call b a h = record {
 }
 
 -- who sends well tells packets with a spelling alone
-pub well_spelled : (limits : Limits) (choice : MemberChoice) (now : ℕ) (call : Call) (b : Broker) → IsAsked limits choice now call b → SendsWell b
+pub well_spelled : (limits : Capacity) (choice : MemberChoice) (now : ℕ) (call : Call) (b : Broker) → IsAsked limits choice now call b → SendsWell b
     → AllByRecursion (λ (x : ℕ × Packet). HasSpelling x.1) (told limits choice now call b).outputs
 well_spelled limits choice now call b a h = step_spelled limits choice now call b a.unspent a.taken a.tells h.contents h.ordered h.phases

@@ -13,7 +13,7 @@ use Rattle.mqtt_rules.specs.step.Laws.{IsOrdered}
 use Rattle.mqtt_rules.specs.step.Piece.{code_of}
 use Rattle.mqtt_rules.specs.step.State.{Broker, MemberChoice, stored}
 use Rattle.mqtt_rules.specs.step.Step.{Call, NewLine, Input, BadInput, Lost, Pump, Tick, is_step_spent}
-use Rattle.mqtt_rules.specs.declared.step.Limits.{Limits}
+use Rattle.mqtt_rules.specs.declared.step.Capacity.{Capacity}
 
 -- a packet identifier: from 1, in two bytes (2.2.1)
 pub record IsPacketIdentifier (identifier : ℕ) : Type 0 where
@@ -53,7 +53,7 @@ pub record SendsWell (b : Broker) : Type 0 where
   pub phases : HaveSentPhases (stored b)
 
 -- a lawful packet no longer than a packet may be, or the code of a fault; and no number is spent
-pub record IsAsked (limits : Limits) (choice : MemberChoice) (now : ℕ) (call : Call) (b : Broker) : Type 0 where
+pub record IsAsked (limits : Capacity) (choice : MemberChoice) (now : ℕ) (call : Call) (b : Broker) : Type 0 where
   pub taken : TakesLawful call
   pub tells : TellsFault call
   pub unspent : is_step_spent limits choice now call b ≡ false

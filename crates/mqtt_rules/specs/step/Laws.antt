@@ -4,13 +4,14 @@ use Rattle.mqtt_topic.specs.names.Filters.{group_of}
 use Rattle.mqtt_routes.specs.routing.Intended.{Publication, Member}
 use Rattle.mqtt_routes.specs.routing.Acceptance.{Served, shared_copy}
 use Rattle.std.specs.List.{AllByRecursion, starts_with}
-use Rattle.mqtt_base.specs.declared.limits.TheConstants.{SUBSCRIPTION_LIMIT, OPEN_LIMIT, QUEUE_LIMIT, SESSION_LIMIT, RETAINED_LIMIT}
+use Rattle.mqtt_base.specs.declared.limits.TheConstants.{LINES_UNASKED, SUBSCRIPTION_LIMIT, OPEN_LIMIT, QUEUE_LIMIT, SESSION_LIMIT, RETAINED_LIMIT}
 use Rattle.mqtt_records.specs.declared.state.session.Session.{Session}
 use Rattle.mqtt_records.specs.declared.state.records.Records.{Records}
 use Rattle.mqtt_records.specs.declared.messages.message.RetainedMessage.{RetainedMessage}
 use Rattle.mqtt_records.specs.lists.Order.{IsTable, row_at}
 use Rattle.mqtt_records.specs.state.Session.{birth_of, place_of, number_of, copy_place, auto}
 use Rattle.mqtt_records.specs.state.Records.{kept_place, nothing, IsNumber, IsMoment}
+use Rattle.mqtt_rules.specs.declared.step.Capacity.{Capacity}
 use Rattle.mqtt_rules.specs.declared.step.Limits.{Limits}
 use Rattle.mqtt_rules.specs.step.State.{Broker, Env, stored, session_at, MemberChoice}
 use Rattle.mqtt_rules.specs.step.Numbers.{HasGivenBirths}
@@ -51,8 +52,8 @@ QueuesWithin limit r = AllByRecursion (λ s. length s.queue ≤ limit) r.session
 
 -- a call, or that a broker opens what was stored, each with its moment and with any limits and choice of members
 pub data Event : Type 0 where
-  Asked : (limits : Limits) (choice : MemberChoice) (now : ℕ) (call : Call) → Event
-  Reopened : (limits : Limits) (choice : MemberChoice) (now : ℕ) → Event
+  Asked : (limits : Capacity) (choice : MemberChoice) (now : ℕ) (call : Call) → Event
+  Reopened : (limits : Capacity) (choice : MemberChoice) (now : ℕ) → Event
 
 abbrev pub after_event : Event → Broker → Broker
 after_event (Asked limits choice now call) b = stepped limits choice now call b
@@ -135,8 +136,22 @@ pub record IsCoherent (r : Records) : Type 0 where
   pub retained : AllByRecursion (IsCoherentMessage r.publications) r.retained
   pub counters : HasKeptCounters r
 
+-- what a broker holds that is asked for these limits and so many lines
+abbrev pub sized : ℕ → Limits → Capacity
+sized lines asked = record {
+  full = asked.full;
+  queue = asked.queue;
+  sessions = asked.sessions;
+  retained = asked.retained;
+  lines = lines;
+}
+
+-- and where no number of lines is asked for
+abbrev pub unasked : Limits → Capacity
+unasked asked = sized LINES_UNASKED asked
+
 -- the limits that a broker is given are within those of the tables
-pub record AreWithin (limits : Limits) : Type 0 where
+pub record AreWithin (limits : Capacity) : Type 0 where
   pub queue : limits.queue ≤ QUEUE_LIMIT
   pub sessions : limits.sessions ≤ SESSION_LIMIT
   pub retained : limits.retained ≤ RETAINED_LIMIT

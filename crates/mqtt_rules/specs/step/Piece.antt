@@ -8,7 +8,7 @@ use Rattle.mqtt_packet.specs.declared.codec.packet.Packet.{Packet}
 use Rattle.mqtt_packet.specs.parts.Faults.{answer_to}
 use Rattle.mqtt_packet.specs.stream.Front.{first_of}
 use Rattle.mqtt_packet.specs.stream.Stream.{Framing, after}
-use Rattle.mqtt_rules.specs.declared.step.Limits.{Limits}
+use Rattle.mqtt_rules.specs.declared.step.Capacity.{Capacity}
 use Rattle.mqtt_rules.specs.step.State.{Line, Broker, MemberChoice, line_at}
 use Rattle.mqtt_rules.specs.step.Step.{Call, Input, BadInput, Outcome, nothing_told, at_moment, stepped, told, is_step_spent}
 
@@ -66,15 +66,15 @@ is_whole (Err fault) = true
 
 -- ---- the step on what is asked; if nothing is, the moment alone is new
 
-abbrev pub stepped_if : Limits → MemberChoice → ℕ → Option Call → Broker → Broker
+abbrev pub stepped_if : Capacity → MemberChoice → ℕ → Option Call → Broker → Broker
 stepped_if limits choice now None b = at_moment now b
 stepped_if limits choice now (Some call) b = stepped limits choice now call b
 
-abbrev pub told_if : Limits → MemberChoice → ℕ → Option Call → Broker → Outcome
+abbrev pub told_if : Capacity → MemberChoice → ℕ → Option Call → Broker → Outcome
 told_if limits choice now None b = nothing_told
 told_if limits choice now (Some call) b = told limits choice now call b
 
-abbrev pub is_spent_if : Limits → MemberChoice → ℕ → Option Call → Broker → Bool
+abbrev pub is_spent_if : Capacity → MemberChoice → ℕ → Option Call → Broker → Bool
 is_spent_if limits choice now None b = false
 is_spent_if limits choice now (Some call) b = is_step_spent limits choice now call b
 
@@ -99,7 +99,7 @@ pub record Pieced : Type 0 where
   pub framing : Framing
   pub out : Outcome
 
-abbrev pub pieced : Limits → MemberChoice → ℕ → ℕ → List ℕ → Framing → Broker → Pieced
+abbrev pub pieced : Capacity → MemberChoice → ℕ → ℕ → List ℕ → Framing → Broker → Pieced
 pieced limits choice now line piece f b =
     let call = call_on (line_at line b) piece f in
     let new = stepped_if limits choice now call b in
@@ -115,7 +115,7 @@ pieced limits choice now line piece f b =
 
 -- Step of a piece: some choice of the members leads from the state, and what its line holds, to what is there after it,
 -- with this outcome, and no number is spent
-pub record PieceStep (limits : Limits) (old : Broker) (now line : ℕ) (piece : List ℕ) (held : Framing) (new : Pieced)
+pub record PieceStep (limits : Capacity) (old : Broker) (now line : ℕ) (piece : List ℕ) (held : Framing) (new : Pieced)
     : Type 0 where
   pub choice : MemberChoice
   pub unspent : is_spent_if limits choice now (call_on (line_at line old) piece held) old ≡ false

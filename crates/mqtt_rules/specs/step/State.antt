@@ -14,7 +14,7 @@ use Rattle.mqtt_records.specs.declared.state.records.Records.{Records}
 use Rattle.mqtt_records.specs.lists.Order.{row_at}
 use Rattle.mqtt_records.specs.state.Session.{birth_of}
 use Rattle.mqtt_routes.specs.routing.Intended.{greatest}
-use Rattle.mqtt_rules.specs.declared.step.Limits.{Limits}
+use Rattle.mqtt_rules.specs.declared.step.Capacity.{Capacity}
 use Rattle.mqtt_records.specs.messages.PassedOn.{number_at}
 use Rattle.mqtt_rules.specs.step.Packets.{publish_of, size_of}
 
@@ -53,7 +53,7 @@ MemberChoice = ℕ → List ℕ → List ℕ
 
 -- what surrounds a step: the limits, the free choice, and what was stored before the step
 pub record Env : Type 0 where
-  pub limits : Limits
+  pub limits : Capacity
   pub choice : MemberChoice
   pub start : Records
 

@@ -16,7 +16,7 @@ use Rattle.mqtt_records.specs.declared.state.change.Change.{Change}
 use Rattle.mqtt_records.specs.declared.state.change.Change.TheVariants.{SetCounter, PutSession, SetSession, RemoveSession, PutWill, RemoveWill, PutSubscription, RemoveSubscription, PutInbound, RemoveInbound, PutCopy, SetCopy, RemoveCopy, PutRetained, RemoveRetained}
 use Rattle.mqtt_records.specs.declared.state.session.Session.{Session}
 use Rattle.mqtt_records.specs.declared.state.records.Records.{Records}
-use Rattle.mqtt_rules.specs.declared.step.Limits.{Limits}
+use Rattle.mqtt_rules.specs.declared.step.Capacity.{Capacity}
 use Rattle.mqtt_rules.specs.declared.step.Report.{Report}
 use Rattle.mqtt_rules.specs.step.Packets.{connack}
 use Rattle.mqtt_records.specs.messages.PassedOn.{number_at}
@@ -79,12 +79,16 @@ on_pump l (Some birth) b = of_session birth (λ s. always (pump_deeds l b s)) b
 
 -- ---- the deeds of a call
 
--- a line is given while fewer than LINE_LIMIT stand and LAST_NUMBER were not given (ours)
-abbrev pub can_link : Broker → Bool
-can_link b = nat_lt (length b.lines) LINE_LIMIT && nat_lt b.given LAST_NUMBER
+-- where so many lines stand there is room for one more: fewer stand than the limits say, and than the tables hold (ours)
+abbrev pub takes_line : Capacity → ℕ → Bool
+takes_line limits count = nat_lt count limits.lines && nat_lt count LINE_LIMIT
+
+-- a line is given while there is room for it and LAST_NUMBER were not given (ours)
+abbrev pub can_link : Capacity → Broker → Bool
+can_link limits b = takes_line limits (length b.lines) && nat_lt b.given LAST_NUMBER
 
 abbrev pub deeds_of : Env → Call → Act
-deeds_of env NewLine b = cond (can_link b) (Link (suc b.given) ∷ []) []
+deeds_of env NewLine b = cond (can_link env.limits b) (Link (suc b.given) ∷ []) []
 deeds_of env (Input n packet) b =
     with_line (line_at n b) (λ l. series (always (On n Hear ∷ []) ∷ on_packet env l packet l.session ∷ [])) b
 deeds_of env (BadInput n is_connect code) b = with_line (line_at n b) (λ l. on_fault env l is_connect code l.session) b
@@ -96,10 +100,10 @@ deeds_of env Tick b = on_tick (due env b) b
 abbrev pub at_moment : ℕ → Broker → Broker
 at_moment now b = record b { now = max b.now (capped now) }
 
-abbrev pub env_of : Limits → MemberChoice → Broker → Env
+abbrev pub env_of : Capacity → MemberChoice → Broker → Env
 env_of limits choice b = record { limits = limits; choice = choice; start = b.records }
 
-abbrev pub deeds : Limits → MemberChoice → ℕ → Call → Broker → List Deed
+abbrev pub deeds : Capacity → MemberChoice → ℕ → Call → Broker → List Deed
 deeds limits choice now call b = deeds_of (env_of limits choice b) call (at_moment now b)
 
 -- ---- the state after a step
@@ -123,7 +127,7 @@ with_moment (row ∷ rows) b = record b { records = record b.records { moment = 
 abbrev pub done : List Deed → Broker → Broker
 done ds b = with_moment (rows_of_all ds b.records) (after_all ds b)
 
-abbrev pub stepped : Limits → MemberChoice → ℕ → Call → Broker → Broker
+abbrev pub stepped : Capacity → MemberChoice → ℕ → Call → Broker → Broker
 stepped limits choice now call b = done (deeds limits choice now call b) (at_moment now b)
 
 -- ---- what a step answers
@@ -168,7 +172,7 @@ outcome_of call ds b = record {
   again = is_again call ds;
 }
 
-abbrev pub told : Limits → MemberChoice → ℕ → Call → Broker → Outcome
+abbrev pub told : Capacity → MemberChoice → ℕ → Call → Broker → Outcome
 told limits choice now call b = outcome_of call (deeds limits choice now call b) (at_moment now b)
 
 -- ---- spent numbers: a birth, a number, a place or an order above the last one is refused, and nothing changes (ours)
@@ -201,11 +205,11 @@ number_given (RemoveRetained place) = 0
 abbrev pub is_spent : List Change → Bool
 is_spent rows = list_any (λ row. nat_lt LAST_NUMBER (number_given row)) rows
 
-abbrev pub is_step_spent : Limits → MemberChoice → ℕ → Call → Broker → Bool
+abbrev pub is_step_spent : Capacity → MemberChoice → ℕ → Call → Broker → Bool
 is_step_spent limits choice now call b = is_spent (rows_written (deeds limits choice now call b) (at_moment now b))
 
 -- Broker step: some choice of the members leads from one state to the other, with this outcome, and no number is spent
-pub record BrokerStep (limits : Limits) (old : Broker) (now : ℕ) (call : Call) (out : Outcome) (new : Broker)
+pub record BrokerStep (limits : Capacity) (old : Broker) (now : ℕ) (call : Call) (out : Outcome) (new : Broker)
     : Type 0 where
   pub choice : MemberChoice
   pub unspent : is_step_spent limits choice now call old ≡ false
@@ -213,7 +217,7 @@ pub record BrokerStep (limits : Limits) (old : Broker) (now : ℕ) (call : Call)
   pub out_is : out ≡ told limits choice now call old
 
 -- a step that is refused: by some choice a number is spent
-pub record SpentStep (limits : Limits) (old : Broker) (now : ℕ) (call : Call) : Type 0 where
+pub record SpentStep (limits : Capacity) (old : Broker) (now : ℕ) (call : Call) : Type 0 where
   pub choice : MemberChoice
   pub spent : is_step_spent limits choice now call old ≡ true
 
@@ -245,23 +249,23 @@ opening env b = closes_all env (connected_in b.records) b
 abbrev pub unopened : ℕ → Records → Broker
 unopened now r = record { records = r; lines = []; given = 0; now = max (capped r.moment) (capped now); tellings = [] }
 
-abbrev pub opening_deeds : Limits → MemberChoice → ℕ → Records → List Deed
+abbrev pub opening_deeds : Capacity → MemberChoice → ℕ → Records → List Deed
 opening_deeds limits choice now r = let b = unopened now r in opening (env_of limits choice b) b
 
-abbrev pub opened : Limits → MemberChoice → ℕ → Records → Broker
+abbrev pub opened : Capacity → MemberChoice → ℕ → Records → Broker
 opened limits choice now r = done (opening_deeds limits choice now r) (unopened now r)
 
-abbrev pub is_opening_spent : Limits → MemberChoice → ℕ → Records → Bool
+abbrev pub is_opening_spent : Capacity → MemberChoice → ℕ → Records → Bool
 is_opening_spent limits choice now r = is_spent (rows_written (opening_deeds limits choice now r) (unopened now r))
 
 -- Broker opening: some choice of the members leads from what is stored to the state, and no number is spent
-pub record BrokerOpening (limits : Limits) (r : Records) (now : ℕ) (new : Broker) : Type 0 where
+pub record BrokerOpening (limits : Capacity) (r : Records) (now : ℕ) (new : Broker) : Type 0 where
   pub choice : MemberChoice
   pub unspent : is_opening_spent limits choice now r ≡ false
   pub new_is : new ≡ opened limits choice now r
 
 -- an opening that is refused: by some choice a number is spent
-pub record SpentOpening (limits : Limits) (r : Records) (now : ℕ) : Type 0 where
+pub record SpentOpening (limits : Capacity) (r : Records) (now : ℕ) : Type 0 where
   pub choice : MemberChoice
   pub spent : is_opening_spent limits choice now r ≡ true
 

@@ -4,7 +4,7 @@ ghost use Rattle.mqtt_records.specs.messages.Queue.{CopyRow};
 ghost use Rattle.mqtt_records.specs.messages.Slim.{slim};
 ghost use Rattle.mqtt_records.specs.declared.state.records.Records.{Records};
 ghost use Rattle.mqtt_records.specs.declared.state.session.Session.{Session};
-ghost use Rattle.mqtt_rules.specs.declared.step.Limits.{Limits};
+ghost use Rattle.mqtt_rules.specs.declared.step.Capacity.{Capacity};
 ghost use Rattle.mqtt_rules.specs.step.State.{Line, Broker, MemberChoice};
 ghost use Rattle.mqtt_rules.specs.step.Fitting.{pump_turns};
 ghost use Rattle.mqtt_rules.specs.step.Inbound.{pump_deeds};
@@ -20,18 +20,18 @@ ghost use Rattle.mqtt_rules.specs.alike.Slim.{slim_broker};
 /// what they stored is opened again, and in every run of calls and openings. Their clients are told the same of topics (3.3,
 /// 4.6).
 pub fn alike_steps()
-    ensures states { (limits : Limits) (choice : MemberChoice) (now : ℕ) (call : Call) (b c : Broker) → AlikeBrokers b c
+    ensures states { (limits : Capacity) (choice : MemberChoice) (now : ℕ) (call : Call) (b c : Broker) → AlikeBrokers b c
         → AlikeBrokers (stepped limits choice now call b) (stepped limits choice now call c) }
-    ensures deeds { (limits : Limits) (choice : MemberChoice) (now : ℕ) (call : Call) (b c : Broker) → AlikeBrokers b c
+    ensures deeds { (limits : Capacity) (choice : MemberChoice) (now : ℕ) (call : Call) (b c : Broker) → AlikeBrokers b c
         → Each (AlikeDeeds (IsPump call)) (deeds limits choice now call b) (deeds limits choice now call c) }
-    ensures told { (limits : Limits) (choice : MemberChoice) (now : ℕ) (call : Call) (b c : Broker) → AlikeBrokers b c
+    ensures told { (limits : Capacity) (choice : MemberChoice) (now : ℕ) (call : Call) (b c : Broker) → AlikeBrokers b c
         → AlikeOutcomes (IsPump call) (told limits choice now call b) (told limits choice now call c) }
-    ensures written { (limits : Limits) (choice : MemberChoice) (now : ℕ) (call : Call) (b c : Broker) → AlikeBrokers b c
+    ensures written { (limits : Capacity) (choice : MemberChoice) (now : ℕ) (call : Call) (b c : Broker) → AlikeBrokers b c
         → rows_written (deeds limits choice now call b) (at_moment now b)
         ≡ rows_written (deeds limits choice now call c) (at_moment now c) }
-    ensures spent { (limits : Limits) (choice : MemberChoice) (now : ℕ) (call : Call) (b c : Broker) → AlikeBrokers b c
+    ensures spent { (limits : Capacity) (choice : MemberChoice) (now : ℕ) (call : Call) (b c : Broker) → AlikeBrokers b c
         → is_step_spent limits choice now call b ≡ is_step_spent limits choice now call c }
-    ensures opened { (limits : Limits) (choice : MemberChoice) (now : ℕ) (r o : Records) → AlikeRecords r o
+    ensures opened { (limits : Capacity) (choice : MemberChoice) (now : ℕ) (r o : Records) → AlikeRecords r o
         → AlikeBrokers (opened limits choice now r) (opened limits choice now o) }
     ensures run { (events : List Event) (b c : Broker) → AlikeBrokers b c
         → AlikeBrokers (after_events events b) (after_events events c) }

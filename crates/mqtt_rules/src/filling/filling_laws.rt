@@ -8,7 +8,7 @@ ghost use Rattle.mqtt_records.specs.declared.state.change.Change.{Change};
 ghost use Rattle.mqtt_records.specs.declared.state.records.Records.{Records};
 ghost use Rattle.mqtt_records.specs.state.Slim.{all_slim};
 ghost use Rattle.mqtt_keep.specs.by_name.Slimming.{slim_entered, slim_places, whole_places};
-ghost use Rattle.mqtt_rules.specs.declared.step.Limits.{Limits};
+ghost use Rattle.mqtt_rules.specs.declared.step.Capacity.{Capacity};
 ghost use Rattle.mqtt_rules.specs.step.Laws.{IsOrdered};
 ghost use Rattle.mqtt_rules.specs.step.State.{Broker, MemberChoice};
 ghost use Rattle.mqtt_rules.specs.step.Step.{Call, Pump, at_moment, deeds, stepped, told, rows_written, is_step_spent, opened, opening_deeds, unopened, is_opening_spent};
@@ -45,30 +45,30 @@ pub fn alike_is_an_equivalence()
 /// the step on the whole broker leaves. It writes the same rows, of which the store makes what that step stores, and is
 /// refused for a spent number if and only if that one is. So it is of an opening (4.1).
 pub fn steps_on_slim_rows_are_steps()
-    ensures states { (limits : Limits) (choice : MemberChoice) (now : ℕ) (call : Call) (fillings : Fillings)
+    ensures states { (limits : Capacity) (choice : MemberChoice) (now : ℕ) (call : Call) (fillings : Fillings)
         (some whole : Broker) → AlikeBrokers some whole
         → AreFilledBy fillings (stepped limits choice now call whole).records
         → filled fillings (stepped limits choice now call some) ≡ stepped limits choice now call whole }
-    ensures written { (limits : Limits) (choice : MemberChoice) (now : ℕ) (call : Call) (some whole : Broker)
+    ensures written { (limits : Capacity) (choice : MemberChoice) (now : ℕ) (call : Call) (some whole : Broker)
         → AlikeBrokers some whole → rows_written (deeds limits choice now call some) (at_moment now some)
         ≡ rows_written (deeds limits choice now call whole) (at_moment now whole) }
-    ensures stored { (limits : Limits) (choice : MemberChoice) (now : ℕ) (call : Call) (some whole : Broker)
+    ensures stored { (limits : Capacity) (choice : MemberChoice) (now : ℕ) (call : Call) (some whole : Broker)
         → AlikeBrokers some whole
         → changed_all (rows_written (deeds limits choice now call some) (at_moment now some)) whole.records
         ≡ (stepped limits choice now call whole).records }
-    ensures spent { (limits : Limits) (choice : MemberChoice) (now : ℕ) (call : Call) (some whole : Broker)
+    ensures spent { (limits : Capacity) (choice : MemberChoice) (now : ℕ) (call : Call) (some whole : Broker)
         → AlikeBrokers some whole
         → is_step_spent limits choice now call some ≡ is_step_spent limits choice now call whole }
-    ensures opened { (limits : Limits) (choice : MemberChoice) (now : ℕ) (fillings : Fillings) (some whole : Records)
+    ensures opened { (limits : Capacity) (choice : MemberChoice) (now : ℕ) (fillings : Fillings) (some whole : Records)
         → AlikeRecords some whole → AreFilledBy fillings (opened limits choice now whole).records
         → filled fillings (opened limits choice now some) ≡ opened limits choice now whole }
-    ensures opening_written { (limits : Limits) (choice : MemberChoice) (now : ℕ) (some whole : Records)
+    ensures opening_written { (limits : Capacity) (choice : MemberChoice) (now : ℕ) (some whole : Records)
         → AlikeRecords some whole → rows_written (opening_deeds limits choice now some) (unopened now some)
         ≡ rows_written (opening_deeds limits choice now whole) (unopened now whole) }
-    ensures opening_stored { (limits : Limits) (choice : MemberChoice) (now : ℕ) (some whole : Records)
+    ensures opening_stored { (limits : Capacity) (choice : MemberChoice) (now : ℕ) (some whole : Records)
         → AlikeRecords some whole → changed_all (rows_written (opening_deeds limits choice now some) (unopened now some)) whole
         ≡ (opened limits choice now whole).records }
-    ensures opening_spent { (limits : Limits) (choice : MemberChoice) (now : ℕ) (some whole : Records)
+    ensures opening_spent { (limits : Capacity) (choice : MemberChoice) (now : ℕ) (some whole : Records)
         → AlikeRecords some whole
         → is_opening_spent limits choice now some ≡ is_opening_spent limits choice now whole }
 {}
@@ -85,7 +85,7 @@ pub fn alike_records_take_the_same_rows()
 /// Every call but a pump tells the same of rows that say less, word for word, so that it needs nothing that the store has
 /// (3, 4).
 pub fn calls_but_pumps_tell_the_same()
-    ensures told { (limits : Limits) (choice : MemberChoice) (now : ℕ) (call : Call) (some whole : Broker)
+    ensures told { (limits : Capacity) (choice : MemberChoice) (now : ℕ) (call : Call) (some whole : Broker)
         → (IsPump call → ⊥) → AlikeBrokers some whole
         → told limits choice now call some ≡ told limits choice now call whole }
 {}
@@ -93,10 +93,10 @@ pub fn calls_but_pumps_tell_the_same()
 /// A pump tells the same if those rows are whole that it sends: if they are the rows of the whole broker, or if they say
 /// what there is for their places. What other rows say it doesn't read (4.3, 4.6).
 pub fn pumps_of_whole_rows_tell_the_same()
-    ensures whole { (limits : Limits) (choice : MemberChoice) (now line : ℕ) (some whole : Broker)
+    ensures whole { (limits : Capacity) (choice : MemberChoice) (now line : ℕ) (some whole : Broker)
         → AlikeBrokers some whole → HasWholeTurns now line some whole
         → told limits choice now (Pump line) some ≡ told limits choice now (Pump line) whole }
-    ensures filled { (limits : Limits) (choice : MemberChoice) (now line : ℕ) (fillings : Fillings)
+    ensures filled { (limits : Capacity) (choice : MemberChoice) (now line : ℕ) (fillings : Fillings)
         (some whole : Broker) → AlikeBrokers some whole → AreFilledBy fillings whole.records
         → HasFilledTurns fillings now line some
         → told limits choice now (Pump line) some ≡ told limits choice now (Pump line) whole }
@@ -113,7 +113,7 @@ pub fn a_pump_reads_what_it_sends()
     ensures alike { (fillings : Fillings) (places : List ℕ) (birth : Option ℕ) (some whole : Broker)
         → AlikeBrokers some whole → AreFilledBy fillings whole.records
         → AlikeBrokers (filled_at fillings places birth some) whole }
-    ensures told { (limits : Limits) (choice : MemberChoice) (now line : ℕ) (fillings : Fillings)
+    ensures told { (limits : Capacity) (choice : MemberChoice) (now line : ℕ) (fillings : Fillings)
         (some whole : Broker) → AlikeBrokers some whole → AreFilledBy fillings whole.records
         → told limits choice now (Pump line) (filled_for_pump fillings now line some)
         ≡ told limits choice now (Pump line) whole }

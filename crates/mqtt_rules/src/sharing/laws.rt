@@ -7,7 +7,7 @@ ghost use Rattle.mqtt_rules.specs.step.Laws.{Event, after_events, blank};
 ghost use Rattle.mqtt_rules.specs.step.Numbers.{HasAcceptedNumbers};
 ghost use Rattle.mqtt_rules.specs.step.State.{Broker, MemberChoice, stored};
 ghost use Rattle.mqtt_rules.specs.step.Step.{Call, at_moment, deeds, opened, opening_deeds, rows_written, stepped, unopened};
-ghost use Rattle.mqtt_rules.specs.declared.step.Limits.{Limits as TheLimits};
+ghost use Rattle.mqtt_rules.specs.declared.step.Capacity.{Capacity as TheCapacity};
 
 /// All copies and retained messages of one publication say the same topic, properties and payload, whatever
 /// was asked since the first start, and whenever a broker opened what was stored. So it is with nothing
@@ -19,16 +19,16 @@ ghost use Rattle.mqtt_rules.specs.declared.step.Limits.{Limits as TheLimits};
 pub fn contents_are_shared()
     ensures run { (events : List Event) → SharesContents (stored (after_events events blank)) }
     ensures nothing { SharesContents nothing }
-    ensures step { (limits : TheLimits) (choice : MemberChoice) (now : ℕ) (call : Call) (b : Broker)
+    ensures step { (limits : TheCapacity) (choice : MemberChoice) (now : ℕ) (call : Call) (b : Broker)
         → SharesContents (stored b) → HasAcceptedNumbers (stored b)
         → SharesContents (stored (stepped limits choice now call b)) }
-    ensures rows { (limits : TheLimits) (choice : MemberChoice) (now : ℕ) (call : Call) (b : Broker)
+    ensures rows { (limits : TheCapacity) (choice : MemberChoice) (now : ℕ) (call : Call) (b : Broker)
         → SharesContents (stored b) → HasAcceptedNumbers (stored b)
         → FitContents (rows_written (deeds limits choice now call b) (at_moment now b)) (stored b) }
-    ensures opened { (limits : TheLimits) (choice : MemberChoice) (now : ℕ) (r : Records)
+    ensures opened { (limits : TheCapacity) (choice : MemberChoice) (now : ℕ) (r : Records)
         → SharesContents r → HasAcceptedNumbers r
         → SharesContents (stored (opened limits choice now r)) }
-    ensures opening { (limits : TheLimits) (choice : MemberChoice) (now : ℕ) (r : Records)
+    ensures opening { (limits : TheCapacity) (choice : MemberChoice) (now : ℕ) (r : Records)
         → SharesContents r → HasAcceptedNumbers r
         → FitContents (rows_written (opening_deeds limits choice now r) (unopened now r)) r }
 {}

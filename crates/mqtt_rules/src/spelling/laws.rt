@@ -11,7 +11,7 @@ ghost use Rattle.mqtt_rules.specs.step.Laws.{IsOrdered};
 ghost use Rattle.mqtt_rules.specs.step.Piece.{first_call};
 ghost use Rattle.mqtt_rules.specs.step.State.{Broker, MemberChoice, stored};
 ghost use Rattle.mqtt_rules.specs.step.Step.{Call, is_opening_spent, is_step_spent, opened, opening_deeds, stepped, told};
-ghost use Rattle.mqtt_rules.specs.declared.step.Limits.{Limits as TheLimits};
+ghost use Rattle.mqtt_rules.specs.declared.step.Capacity.{Capacity as TheCapacity};
 ghost use Rattle.mqtt_rules.specs.spelling.Sending.{HaveSentPhases, IsAsked, SendsWell, TellsFault};
 
 /// Each packet that the broker sends in a step has a spelling: whoever reads its bytes gets that packet, and it is
@@ -21,7 +21,7 @@ ghost use Rattle.mqtt_rules.specs.spelling.Sending.{HaveSentPhases, IsAsked, Sen
 /// with an empty store. The code of what bytes of a line ask for is always that of a fault (2.1, 2.2.1, 3.2 to
 /// 3.14, 4.13).
 pub fn what_goes_out_has_a_spelling()
-    ensures step { (limits : TheLimits) (choice : MemberChoice) (now : ℕ) (call : Call) (b : Broker)
+    ensures step { (limits : TheCapacity) (choice : MemberChoice) (now : ℕ) (call : Call) (b : Broker)
         → is_step_spent limits choice now call b ≡ false → TakesLawful call → TellsFault call
         → AreContentsLawful b → IsOrdered (stored b) → HaveSentPhases (stored b)
         → AllByRecursion (λ (x : ℕ × Packet). HasSpelling x.1) (told limits choice now call b).outputs }
@@ -33,11 +33,11 @@ pub fn what_goes_out_has_a_spelling()
 /// each opening if it was so before, under the same premises (2.2.1).
 pub fn identifiers_stay_two_bytes()
     ensures nothing { HaveSentPhases nothing }
-    ensures step { (limits : TheLimits) (choice : MemberChoice) (now : ℕ) (call : Call) (b : Broker)
+    ensures step { (limits : TheCapacity) (choice : MemberChoice) (now : ℕ) (call : Call) (b : Broker)
         → is_step_spent limits choice now call b ≡ false → TakesLawful call → TellsFault call
         → AreContentsLawful b → IsOrdered (stored b) → HaveSentPhases (stored b)
         → HaveSentPhases (stored (stepped limits choice now call b)) }
-    ensures opening { (limits : TheLimits) (choice : MemberChoice) (now : ℕ) (r : Records)
+    ensures opening { (limits : TheCapacity) (choice : MemberChoice) (now : ℕ) (r : Records)
         → is_opening_spent limits choice now r ≡ false → HasLawfulContents r → HaveSentPhases r
         → HaveSentPhases (stored (opened limits choice now r)) }
 {}
@@ -48,16 +48,16 @@ pub fn identifiers_stay_two_bytes()
 /// out in that step has a spelling. So whatever such a broker is asked, and however often it opens again, its
 /// packets are read as they were sent (2.1, 4.1).
 pub fn brokers_go_on_sending_well()
-    ensures begins { (limits : TheLimits) (choice : MemberChoice) (now : ℕ) (r : Records)
+    ensures begins { (limits : TheCapacity) (choice : MemberChoice) (now : ℕ) (r : Records)
         → is_opening_spent limits choice now r ≡ false → IsLawful r → HaveSentPhases r
         → SendsWell (opened limits choice now r) }
-    ensures reopens { (limits : TheLimits) (choice : MemberChoice) (now : ℕ) (b : Broker)
+    ensures reopens { (limits : TheCapacity) (choice : MemberChoice) (now : ℕ) (b : Broker)
         → is_opening_spent limits choice now (stored b) ≡ false → SendsWell b
         → SendsWell (opened limits choice now (stored b)) }
-    ensures steps { (limits : TheLimits) (choice : MemberChoice) (now : ℕ) (call : Call) (b : Broker)
+    ensures steps { (limits : TheCapacity) (choice : MemberChoice) (now : ℕ) (call : Call) (b : Broker)
         → IsAsked limits choice now call b → SendsWell b
         → SendsWell (stepped limits choice now call b) }
-    ensures spells { (limits : TheLimits) (choice : MemberChoice) (now : ℕ) (call : Call) (b : Broker)
+    ensures spells { (limits : TheCapacity) (choice : MemberChoice) (now : ℕ) (call : Call) (b : Broker)
         → IsAsked limits choice now call b → SendsWell b
         → AllByRecursion (λ (x : ℕ × Packet). HasSpelling x.1) (told limits choice now call b).outputs }
 {}

@@ -11,7 +11,7 @@ ghost use Rattle.mqtt_records.specs.declared.state.records.Records.{Records};
 ghost use Rattle.mqtt_rules.specs.step.Contents.{AreContentsOf, AreSizes, HasLawfulContentsOf, IsCopiedOf, IsPublishedOf, IsWilledOf, Sizes, TakesLawful, of_packets, of_rows};
 ghost use Rattle.mqtt_rules.specs.step.State.{Broker, MemberChoice};
 ghost use Rattle.mqtt_rules.specs.step.Step.{Call, opened, stepped};
-ghost use Rattle.mqtt_rules.specs.declared.step.Limits.{Limits as TheLimits};
+ghost use Rattle.mqtt_rules.specs.declared.step.Capacity.{Capacity as TheCapacity};
 
 /// The contents of what is stored stay lawful: each copy in a queue and each retained message has a topic
 /// name, and properties that have a spelling, may stand in a PUBLISH and keep its laws; each Will has such
@@ -22,10 +22,10 @@ ghost use Rattle.mqtt_rules.specs.declared.step.Limits.{Limits as TheLimits};
 /// messages and Wills as short as those of packets are what lawful records ask (3.1.2.5, 3.3.2, 3.8.2.1.2,
 /// 4.1).
 pub fn contents_are_lawful()
-    ensures step { (sizes : Sizes) (limits : TheLimits) (choice : MemberChoice) (now : ℕ) (call : Call)
+    ensures step { (sizes : Sizes) (limits : TheCapacity) (choice : MemberChoice) (now : ℕ) (call : Call)
         (b : Broker) → AreSizes sizes → TakesLawful call → AreContentsOf sizes b
         → AreContentsOf sizes (stepped limits choice now call b) }
-    ensures opening { (sizes : Sizes) (limits : TheLimits) (choice : MemberChoice) (now : ℕ) (r : Records)
+    ensures opening { (sizes : Sizes) (limits : TheCapacity) (choice : MemberChoice) (now : ℕ) (r : Records)
         → AreSizes sizes → HasLawfulContentsOf sizes r
         → AreContentsOf sizes (opened limits choice now r) }
     ensures nothing { (sizes : Sizes) → HasLawfulContentsOf sizes nothing }

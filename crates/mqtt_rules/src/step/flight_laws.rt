@@ -2,7 +2,7 @@
 ghost use Rattle.std.specs.Prelude.{ℕ, List};
 ghost use Rattle.mqtt_records.specs.declared.state.records.Records.{Records};
 ghost use Rattle.mqtt_records.specs.state.Records.{nothing};
-ghost use Rattle.mqtt_rules.specs.declared.step.Limits.{Limits};
+ghost use Rattle.mqtt_rules.specs.declared.step.Capacity.{Capacity};
 ghost use Rattle.mqtt_rules.specs.step.State.{Broker, MemberChoice};
 ghost use Rattle.mqtt_rules.specs.step.Step.{Call, stepped, opened};
 ghost use Rattle.mqtt_rules.specs.step.Flight.{HasDistinctIdentifiers};
@@ -12,10 +12,10 @@ ghost use Rattle.mqtt_rules.specs.step.Flight.{HasDistinctIdentifiers};
 /// whichever members of groups are chosen (2.2.1).
 pub fn identifiers_in_flight_are_unique()
     ensures nothing { HasDistinctIdentifiers nothing }
-    ensures step { (limits : Limits) (choice : MemberChoice) (now : ℕ) (call : Call) (b : Broker)
+    ensures step { (limits : Capacity) (choice : MemberChoice) (now : ℕ) (call : Call) (b : Broker)
         → HasDistinctIdentifiers b.records
         → HasDistinctIdentifiers (stepped limits choice now call b).records }
-    ensures opening { (limits : Limits) (choice : MemberChoice) (now : ℕ) (r : Records)
+    ensures opening { (limits : Capacity) (choice : MemberChoice) (now : ℕ) (r : Records)
         → HasDistinctIdentifiers r
         → HasDistinctIdentifiers (opened limits choice now r).records }
 {}

@@ -12,16 +12,16 @@ ghost use Rattle.mqtt_rules.specs.step.Step.{env_of, at_moment, rows_written};
 ghost use Rattle.mqtt_rules.specs.step.Laws.{IsOrdered, FewOpen, QueuesWithin};
 ghost use Rattle.mqtt_rules.specs.step.Laws.{Event, after_events, blank};
 
-use crate::step::Limits;
+use crate::step::Capacity;
 use mqtt_base::QUEUE_LIMIT;
 
 /// The rows that a step writes make of what was stored before it what is stored after it, and so do
 /// those of an opening; a deed without a row leaves what is stored alone (4.1).
 pub fn stored_part_follows()
-    ensures step { (limits : Limits) (choice : MemberChoice) (now : ℕ) (call : Call) (b : Broker)
+    ensures step { (limits : Capacity) (choice : MemberChoice) (now : ℕ) (call : Call) (b : Broker)
         → changed_all (rows_written (deeds limits choice now call b) (at_moment now b)) (stored b)
         ≡ stored (stepped limits choice now call b) }
-    ensures opening { (limits : Limits) (choice : MemberChoice) (now : ℕ) (r : Records)
+    ensures opening { (limits : Capacity) (choice : MemberChoice) (now : ℕ) (r : Records)
         → changed_all (rows_written (opening (env_of limits choice (unopened now r)) (unopened now r)) (unopened now r)) r
         ≡ stored (opened limits choice now r) }
     ensures without_row { (d : Deed) (b : Broker)
@@ -41,10 +41,10 @@ pub fn stored_part_follows()
 pub fn tables_are_ordered()
     ensures nothing { IsOrdered nothing }
     ensures change { (change : Change) (r : Records) → IsOrdered r → IsOrdered (changed change r) }
-    ensures step { (limits : Limits) (choice : MemberChoice) (now : ℕ) (call : Call) (b : Broker)
+    ensures step { (limits : Capacity) (choice : MemberChoice) (now : ℕ) (call : Call) (b : Broker)
         → IsOrdered (stored b)
         → IsOrdered (stored (stepped limits choice now call b)) }
-    ensures opening { (limits : Limits) (choice : MemberChoice) (now : ℕ) (r : Records)
+    ensures opening { (limits : Capacity) (choice : MemberChoice) (now : ℕ) (r : Records)
         → IsOrdered r
         → IsOrdered (stored (opened limits choice now r)) }
 
@@ -56,7 +56,7 @@ pub fn tables_are_ordered()
 /// first start, and whenever a broker opened what was stored (4.9).
 pub fn at_most_twenty_open()
     ensures run { (events : List Event) → FewOpen (stored (after_events events blank)) }
-    ensures step { (limits : Limits) (choice : MemberChoice) (now : ℕ) (call : Call) (b : Broker)
+    ensures step { (limits : Capacity) (choice : MemberChoice) (now : ℕ) (call : Call) (b : Broker)
         → IsOrdered (stored b)
         → FewOpen (stored (stepped limits choice now call b)) }
 {}
@@ -65,26 +65,26 @@ pub fn at_most_twenty_open()
 /// an opening, that finds no more sessions than `limits.sessions` leaves no more, and so it is with
 /// retained messages and `limits.retained`, and with the copies in each queue and `limits.queue` (ours).
 pub fn limits_are_kept()
-    ensures sessions { (limits : Limits) (choice : MemberChoice) (now : ℕ) (call : Call) (b : Broker)
+    ensures sessions { (limits : Capacity) (choice : MemberChoice) (now : ℕ) (call : Call) (b : Broker)
         → length (stored b).sessions ≤ limits.sessions
         → length (stored (stepped limits choice now call b)).sessions ≤ limits.sessions }
-    ensures sessions_opened { (limits : Limits) (choice : MemberChoice) (now : ℕ) (r : Records)
+    ensures sessions_opened { (limits : Capacity) (choice : MemberChoice) (now : ℕ) (r : Records)
         → length r.sessions ≤ limits.sessions
         → length (stored (opened limits choice now r)).sessions ≤ limits.sessions }
-    ensures retained { (limits : Limits) (choice : MemberChoice) (now : ℕ) (call : Call) (b : Broker)
+    ensures retained { (limits : Capacity) (choice : MemberChoice) (now : ℕ) (call : Call) (b : Broker)
         → IsOrdered (stored b)
         → length (stored b).retained ≤ limits.retained
         → length (stored (stepped limits choice now call b)).retained ≤ limits.retained }
-    ensures retained_opened { (limits : Limits) (choice : MemberChoice) (now : ℕ) (r : Records)
+    ensures retained_opened { (limits : Capacity) (choice : MemberChoice) (now : ℕ) (r : Records)
         → IsOrdered r
         → length r.retained ≤ limits.retained
         → length (stored (opened limits choice now r)).retained ≤ limits.retained }
-    ensures queues { (limits : Limits) (choice : MemberChoice) (now : ℕ) (call : Call) (b : Broker)
+    ensures queues { (limits : Capacity) (choice : MemberChoice) (now : ℕ) (call : Call) (b : Broker)
         → limits.queue ≤ QUEUE_LIMIT
         → IsOrdered (stored b)
         → QueuesWithin limits.queue (stored b)
         → QueuesWithin limits.queue (stored (stepped limits choice now call b)) }
-    ensures queues_opened { (limits : Limits) (choice : MemberChoice) (now : ℕ) (r : Records)
+    ensures queues_opened { (limits : Capacity) (choice : MemberChoice) (now : ℕ) (r : Records)
         → limits.queue ≤ QUEUE_LIMIT
         → IsOrdered r
         → QueuesWithin limits.queue r

@@ -8,7 +8,7 @@ ghost use Rattle.mqtt_rules.specs.step.Lines.{HasUniqueLines};
 ghost use Rattle.mqtt_rules.specs.step.Numbers.{IsTimed};
 ghost use Rattle.mqtt_rules.specs.step.State.{Broker, Line, MemberChoice, line_of, session_at, stored};
 ghost use Rattle.mqtt_rules.specs.step.Step.{Call, is_step_spent, opened, stepped};
-ghost use Rattle.mqtt_rules.specs.declared.step.Limits.{Limits as TheLimits};
+ghost use Rattle.mqtt_rules.specs.declared.step.Capacity.{Capacity as TheCapacity};
 
 /// The numbers of lines ascend, and none is above the last one given; a session stands on at most one
 /// line, and on one exactly if it stands and isn't closed. So it is before the first event and after
@@ -16,11 +16,11 @@ ghost use Rattle.mqtt_rules.specs.declared.step.Limits.{Limits as TheLimits};
 /// client identifier has one session then, so that its takeover leaves no other one on a line).
 pub fn lines_are_unique()
     ensures nothing { HasUniqueLines blank }
-    ensures step { (limits : TheLimits) (choice : MemberChoice) (now : ℕ) (call : Call) (b : Broker)
+    ensures step { (limits : TheCapacity) (choice : MemberChoice) (now : ℕ) (call : Call) (b : Broker)
         → AreWithin limits → IsCoherent (stored b) → IsTimed b → IsNumber b.now
         → is_step_spent limits choice now call b ≡ false
         → HasUniqueLines b → HasUniqueLines (stepped limits choice now call b) }
-    ensures opening { (limits : TheLimits) (choice : MemberChoice) (now : ℕ) (r : Records)
+    ensures opening { (limits : TheCapacity) (choice : MemberChoice) (now : ℕ) (r : Records)
         → HasUniqueLines (opened limits choice now r) }
 
     // A connected session's line is the one that is found for it, and a closed one has none.

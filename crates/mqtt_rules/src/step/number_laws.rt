@@ -8,7 +8,7 @@ ghost use Rattle.mqtt_records.specs.declared.messages.message.RetainedMessage.{R
 ghost use Rattle.mqtt_records.specs.messages.Queue.{CopyRow};
 ghost use Rattle.mqtt_records.specs.declared.state.records.Records.{Records};
 ghost use Rattle.mqtt_records.specs.declared.state.session.Session.{Session};
-ghost use Rattle.mqtt_rules.specs.declared.step.Limits.{Limits as TheLimits};
+ghost use Rattle.mqtt_rules.specs.declared.step.Capacity.{Capacity as TheCapacity};
 ghost use Rattle.mqtt_rules.specs.step.State.{Broker, session_at, MemberChoice};
 ghost use Rattle.mqtt_rules.specs.step.Deeds.{new_entry};
 ghost use Rattle.mqtt_rules.specs.step.Routing.{place_of_kept};
@@ -22,10 +22,10 @@ use mqtt_base::LAST_NUMBER;
 /// client identifier that a step gives is the next one, one above the last that was ever given, and the
 /// counter after the step is the last given; likewise when a broker opens.
 pub fn numbers_are_new()
-    ensures step { (limits : TheLimits) (choice : MemberChoice) (now : ℕ) (call : Call) (b : Broker)
+    ensures step { (limits : TheCapacity) (choice : MemberChoice) (now : ℕ) (call : Call) (b : Broker)
         → CountOn (deeds limits choice now call b) b.records
         (stepped limits choice now call b).records }
-    ensures opening { (limits : TheLimits) (choice : MemberChoice) (now : ℕ) (r : Records)
+    ensures opening { (limits : TheCapacity) (choice : MemberChoice) (now : ℕ) (r : Records)
         → CountOn (opening (env_of limits choice (unopened now r)) (unopened now r)) r
         (opened limits choice now r).records }
 {}
@@ -44,15 +44,15 @@ pub fn counted_numbers_are_apart()
 /// if it isn't above the greatest moment handed in, as it never is once the broker is open on what a
 /// store has, whose moment is at most the last one.
 pub fn counters_never_fall()
-    ensures step { (limits : TheLimits) (choice : MemberChoice) (now : ℕ) (call : Call) (b : Broker)
+    ensures step { (limits : TheCapacity) (choice : MemberChoice) (now : ℕ) (call : Call) (b : Broker)
         → NoneFell b.records (stepped limits choice now call b).records }
-    ensures opening { (limits : TheLimits) (choice : MemberChoice) (now : ℕ) (r : Records)
+    ensures opening { (limits : TheCapacity) (choice : MemberChoice) (now : ℕ) (r : Records)
         → NoneFell r (opened limits choice now r).records }
-    ensures moment { (limits : TheLimits) (choice : MemberChoice) (now : ℕ) (call : Call) (b : Broker)
+    ensures moment { (limits : TheCapacity) (choice : MemberChoice) (now : ℕ) (call : Call) (b : Broker)
         → IsTimed b
         → (b.records.moment ≤ (stepped limits choice now call b).records.moment)
         × IsTimed (stepped limits choice now call b) }
-    ensures opening_moment { (limits : TheLimits) (choice : MemberChoice) (now : ℕ) (r : Records)
+    ensures opening_moment { (limits : TheCapacity) (choice : MemberChoice) (now : ℕ) (r : Records)
         → r.moment ≤ LAST_NUMBER
         → (r.moment ≤ (opened limits choice now r).records.moment)
         × IsTimed (opened limits choice now r) }
@@ -62,9 +62,9 @@ pub fn counters_never_fall()
 /// had, and after its opening, and none has if nothing is stored; so the birth of a new session is
 /// that of none that stands.
 pub fn births_are_new()
-    ensures step { (limits : TheLimits) (choice : MemberChoice) (now : ℕ) (call : Call) (b : Broker)
+    ensures step { (limits : TheCapacity) (choice : MemberChoice) (now : ℕ) (call : Call) (b : Broker)
         → HasGivenBirths b.records → HasGivenBirths (stepped limits choice now call b).records }
-    ensures opening { (limits : TheLimits) (choice : MemberChoice) (now : ℕ) (r : Records)
+    ensures opening { (limits : TheCapacity) (choice : MemberChoice) (now : ℕ) (r : Records)
         → HasGivenBirths r → HasGivenBirths (opened limits choice now r).records }
     ensures nothing { HasGivenBirths nothing }
     ensures next { (r : Records) → HasGivenBirths r → session_at (suc r.births) r ≡ None }
@@ -74,10 +74,10 @@ pub fn births_are_new()
 /// after any step of a broker if none had, and after its opening, and none has if nothing is stored;
 /// so a new publication's number is above those of all copies and retained messages that stand.
 pub fn copies_are_of_accepted_publications()
-    ensures step { (limits : TheLimits) (choice : MemberChoice) (now : ℕ) (call : Call) (b : Broker)
+    ensures step { (limits : TheCapacity) (choice : MemberChoice) (now : ℕ) (call : Call) (b : Broker)
         → HasAcceptedNumbers b.records
         → HasAcceptedNumbers (stepped limits choice now call b).records }
-    ensures opening { (limits : TheLimits) (choice : MemberChoice) (now : ℕ) (r : Records)
+    ensures opening { (limits : TheCapacity) (choice : MemberChoice) (now : ℕ) (r : Records)
         → HasAcceptedNumbers r → HasAcceptedNumbers (opened limits choice now r).records }
     ensures nothing { HasAcceptedNumbers nothing }
 {}
@@ -86,9 +86,9 @@ pub fn copies_are_of_accepted_publications()
 /// session in that of their places, and open identifiers ascend, after any step of a broker if they did,
 /// and after its opening; so no birth, no place and no open identifier comes twice.
 pub fn births_and_places_are_unique()
-    ensures step { (limits : TheLimits) (choice : MemberChoice) (now : ℕ) (call : Call) (b : Broker)
+    ensures step { (limits : TheCapacity) (choice : MemberChoice) (now : ℕ) (call : Call) (b : Broker)
         → AreInOrder b.records → AreInOrder (stepped limits choice now call b).records }
-    ensures opening { (limits : TheLimits) (choice : MemberChoice) (now : ℕ) (r : Records)
+    ensures opening { (limits : TheCapacity) (choice : MemberChoice) (now : ℕ) (r : Records)
         → AreInOrder r → AreInOrder (opened limits choice now r).records }
     ensures nothing { AreInOrder nothing }
 {}

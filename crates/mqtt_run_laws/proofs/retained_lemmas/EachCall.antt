@@ -135,7 +135,7 @@ module _ (env : Env) (R : List Deed → Broker → Type 0) (says : Says env R) w
   -- what is said of publications, beginnings, openings and grants is said of a call
   pub call_says : (call : Call) → SaysAct env R says (deeds_of env call)
   call_says NewLine b h =
-      quietly env R says (cond (can_link b) (Link (suc b.given) ∷ []) []) b (quiet_cond (can_link b) (Link (suc b.given) ∷ []) [] (tt, tt) tt)
+      quietly env R says (cond (can_link env.limits b) (Link (suc b.given) ∷ []) []) b (quiet_cond (can_link env.limits b) (Link (suc b.given) ∷ []) [] (tt, tt) tt)
   call_says (Input n packet) b h =
       on_a_line env R says (line_at n b) (λ l. series (always (On n Hear ∷ []) ∷ on_packet env l packet l.session ∷ []))
       (λ l. acts env R says (always (On n Hear ∷ []) ∷ on_packet env l packet l.session ∷ [])

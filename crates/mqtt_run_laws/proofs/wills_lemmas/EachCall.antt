@@ -376,7 +376,7 @@ module _ (x : Asked) (env : Env) (R : List Deed → Broker → Type 0) (says : S
 
   -- it is said of a call
   pub call_said : (call : Call) → x.call ≡ Some call → Orders x.step.broker → R (deeds_of env call x.step.broker) x.step.broker
-  call_said NewLine read h = let b = x.step.broker in quietly (cond (can_link b) (Link (suc b.given) ∷ []) []) b (quiet_cond (can_link b) (Link (suc b.given) ∷ []) [] (tt, tt) tt)
+  call_said NewLine read h = let b = x.step.broker in quietly (cond (can_link env.limits b) (Link (suc b.given) ∷ []) []) b (quiet_cond (can_link env.limits b) (Link (suc b.given) ∷ []) [] (tt, tt) tt)
   call_said (Input n packet) read h =
       let b = x.step.broker in
       on_a_line (line_at n b) (λ l. series (always (On n Hear ∷ []) ∷ on_packet env l packet l.session ∷ [])) b (λ l there.

@@ -11,7 +11,7 @@ use Rattle.mqtt_packet.specs.declared.codec.packet.Packet.{Packet}
 use Rattle.mqtt_packet.specs.declared.codec.packet.Packet.TheVariants.{Connect}
 use Rattle.mqtt_packet.specs.declared.connect.connect.Will.{Will}
 use Rattle.mqtt_records.specs.messages.PassedOn.{property}
-use Rattle.mqtt_rules.specs.declared.step.Limits.{Limits}
+use Rattle.mqtt_rules.specs.declared.step.Capacity.{Capacity}
 use Rattle.mqtt_rules.specs.step.Laws.{AreWithin, Asked, Event, Reopened, blank}
 use Rattle.mqtt_rules.specs.step.Packets.{disconnect}
 use Rattle.mqtt_rules.specs.step.Step.{Call, Input, Lost, NewLine, Tick}
@@ -22,7 +22,7 @@ use Rattle.mqtt_run_laws.specs.wills.Fates.{Cancelled, Dropped, EachWillStandsOr
 use Rattle.mqtt_run_laws.proofs.wills_lemmas.Fates.{each_stands_or_ended}
 
 -- nothing may be retained
-abbrev full : Limits
+abbrev full : Capacity
 full = record usual { retained = 0 }
 
 abbrev asked : ℕ → Call → Event

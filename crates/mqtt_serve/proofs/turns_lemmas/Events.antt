@@ -1,7 +1,7 @@
 -- Calls of the broker are events that lead from broker to broker.
 use Rattle.std.proofs.Common.{◌≡◌, ◌⊎◌, ℕ, Bool, true, false, List, [], ◌∷◌, ◌++◌, Option, Some, None, Ok, Err, refl, sym, ap, subst, ◌∙◌, inl, inr}
 use Rattle.mqtt_keep.specs.declared.keeping.keep.Keep.{Ghosts}
-use Rattle.mqtt_rules.specs.declared.step.Limits.{Limits}
+use Rattle.mqtt_rules.specs.declared.step.Capacity.{Capacity}
 use Rattle.mqtt_rules.specs.step.Deeds.{Deed}
 use Rattle.mqtt_rules.specs.step.Laws.{AreWithin, Asked, Event, after_event, after_events}
 use Rattle.mqtt_rules.specs.step.Piece.{Pieced, is_spent_if, stepped_if, told_if}
@@ -40,7 +40,7 @@ pub record Lead (P : List Event → Type 0) (old new : Broker) : Type 0 where
   pub lead : after_events events old ≡ new
 
 -- one event
-one_leads : (P : List Event → Type 0) (limits : Limits) (choice : MemberChoice) (now : ℕ) (call : Call) (old new : Broker) → AreWithin limits
+one_leads : (P : List Event → Type 0) (limits : Capacity) (choice : MemberChoice) (now : ℕ) (call : Call) (old new : Broker) → AreWithin limits
     → is_step_spent limits choice now call old ≡ false → stepped limits choice now call old ≡ new → P (Asked limits choice now call ∷ []) → Lead P old new
 one_leads P limits choice now call old new within unspent is its =
     record { events = Asked limits choice now call ∷ []; are = its; fair = ((within, unspent), tt); lead = is }
@@ -50,7 +50,7 @@ none_leads : (P : List Event → Type 0) (old new : Broker) → old ≡ new → 
 none_leads P old new same its = record { events = []; are = its; fair = tt; lead = same }
 
 -- what is answered Ok is one event: what was asked, or the moment alone
-answer_leads : (asks : Option Call) (limits : Limits) (choice : MemberChoice) (now : ℕ) (old new : Broker) (out : Outcome) → AreWithin limits
+answer_leads : (asks : Option Call) (limits : Capacity) (choice : MemberChoice) (now : ℕ) (old new : Broker) (out : Outcome) → AreWithin limits
     → BeginsInOrder old → is_spent_if limits choice now asks old ≡ false → new ≡ stepped_if limits choice now asks old
     → out.outputs.items ≡ bytes_out (told_if limits choice now asks old) → out.closed.items ≡ (told_if limits choice now asks old).closed
     → Lead (IsOfAnswer limits now old (Ok out) asks) old new

@@ -4,7 +4,7 @@ use Rattle.std.specs.Prelude.{Result, Ok, Err}
 use Rattle.mqtt_keep.specs.declared.keeping.keep.Keep.{Ghosts}
 use Rattle.mqtt_keep.specs.declared.keeping.keep.KeepError.{KeepError}
 use Rattle.mqtt_records.specs.declared.state.records.Records.{Records}
-use Rattle.mqtt_rules.specs.declared.step.Limits.{Limits}
+use Rattle.mqtt_rules.specs.declared.step.Capacity.{Capacity}
 use Rattle.mqtt_rules.specs.step.Laws.{AreWithin, Asked, Event, Reopened, after_events, blank}
 use Rattle.mqtt_rules.specs.step.State.{Broker, MemberChoice, stored}
 use Rattle.mqtt_rules.specs.step.Step.{Call, is_opening_spent, opened}
@@ -49,7 +49,7 @@ leave_as P Q b left f leaves = record { events = leaves.events; are = f leaves.e
 
 -- ---- what a crash leaves of a call
 
-step_leaves : (limits : Limits) (b : Broker) (now : ℕ) (call : Call) (r : Records) → AreWithin limits → IsLeftBy limits b now call r
+step_leaves : (limits : Capacity) (b : Broker) (now : ℕ) (call : Call) (r : Records) → AreWithin limits → IsLeftBy limits b now call r
     → Leave (IsLeftByStep limits now b (Some call) r) b r
 step_leaves limits b now call r within (inl is) = record { events = []; are = inl (refl, is); fair = tt; leave = sym is }
 step_leaves limits b now call r within (inr next) = record {
@@ -59,7 +59,7 @@ step_leaves limits b now call r within (inr next) = record {
   leave = sym next.is;
 }
 
-any_leaves : (asks : Option Call) (limits : Limits) (b : Broker) (now : ℕ) (r : Records) → AreWithin limits → IsLeftByAny limits b now asks r
+any_leaves : (asks : Option Call) (limits : Capacity) (b : Broker) (now : ℕ) (r : Records) → AreWithin limits → IsLeftByAny limits b now asks r
     → Leave (IsLeftByStep limits now b asks r) b r
 any_leaves None limits b now r within is = record { events = []; are = (refl, is); fair = tt; leave = sym is }
 any_leaves (Some call) limits b now r within by = step_leaves limits b now call r within by
@@ -133,7 +133,7 @@ module _ {K : Type 0} (g : Ghosts K) where
   -- ---- a start
 
   module _ (leaves_held : (keep : K) (left r : Records) → g.is_settled keep → g.holds keep r → g.leaves keep left → left ≡ r)
-      (limits : Limits) (r : Records) (last : Serving K) (started : HasStarted g limits r last) (within : AreWithin limits)
+      (limits : Capacity) (r : Records) (last : Serving K) (started : HasStarted g limits r last) (within : AreWithin limits)
       (P : List Event → Type 0) (found : Leave P blank r) (sound : g.is_sound last.running.keep) where
     abbrev start : Serving K
     start = started.start
@@ -215,7 +215,7 @@ module _ {K : Type 0} (g : Ghosts K) where
   -- ---- a store is served
 
   -- what is served and given back has started so
-  pub runs_started : (limits : Limits) (begin turns : ℕ) (keep given : K) → Runs g limits begin turns keep given → WasServed g limits keep given
+  pub runs_started : (limits : Capacity) (begin turns : ℕ) (keep given : K) → Runs g limits begin turns keep given → WasServed g limits keep given
   runs_started limits begin turns keep given runs =
       let ran = runs.ran.ran in
       let on = ran.is_so.1 in
@@ -246,12 +246,12 @@ module _ {K : Type 0} (g : Ghosts K) where
 
   module _ (leaves_held : (keep : K) (left r : Records) → g.is_settled keep → g.holds keep r → g.leaves keep left → left ≡ r) where
     -- what a crash leaves of an opening: what there was, or what is stored after it
-    crash_leaves : (limits : Limits) (now : ℕ) (keep : K) (result : Result (Running K) (K × KeepError)) (left : Records) → Opened g limits now keep result
+    crash_leaves : (limits : Capacity) (now : ℕ) (keep : K) (result : Result (Running K) (K × KeepError)) (left : Records) → Opened g limits now keep result
         → g.is_sound (store_behind result) → g.leaves (store_behind result) left → g.leaves keep left ⊎ IsStoredOpening g limits now keep left
     crash_leaves limits now keep (Ok engine) left opened sound may = opened.opened.crash left may sound
     crash_leaves limits now keep (Err e) left opened sound may = opened.refused.crash left may sound
 
-    opening_leaves : (limits : Limits) (now : ℕ) (r left : Records) → WasOpening g limits now r left → (left ≡ r) ⊎ IsStoredAfter limits now r left
+    opening_leaves : (limits : Capacity) (now : ℕ) (r left : Records) → WasOpening g limits now r left → (left ≡ r) ⊎ IsStoredAfter limits now r left
     opening_leaves limits now r left was = elim (crash_leaves limits now was.keep was.result left was.opened was.sound was.leaves) [
       | inl before ↦ inl (leaves_held was.keep left r was.settled was.has before)
       | inr after ↦ inr (subst (λ (q : Records). IsStoredAfter limits now q left) (after.load.exact r was.has after.sound) after.is)
@@ -299,7 +299,7 @@ module _ {K : Type 0} (g : Ghosts K) where
         record { events = its.events; of_starts = its.are; fair = its.fair; is = its.leave; keep = keeps_from_nothing its.events its.fair }
 
     -- and so does all that was called so far
-    pub so_far_keep : (limits : Limits) (r : Records) (last : Serving K) (starts : AreStarts g r) (started : HasStarted g limits r last) → AreWithin limits
+    pub so_far_keep : (limits : Capacity) (r : Records) (last : Serving K) (starts : AreStarts g r) (started : HasStarted g limits r last) → AreWithin limits
         → g.is_sound last.running.keep → last.running.stopped ≡ false → KeepAllSoFar starts started
     so_far_keep limits r last starts started within sound runs =
         let found = leave_all r starts in

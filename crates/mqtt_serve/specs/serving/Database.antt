@@ -10,7 +10,7 @@ use Rattle.sqlite.specs.State.{State, HasCleanDisk, Survives, CommitsShowing, Qu
 use Rattle.sqlite.specs.Held.{Held, IsNew, state}
 use Rattle.sqlite.specs.Files.{file_state, over_files, IsOpened}
 use Rattle.sqlite.specs.Start.{FindsIn}
-use Rattle.mqtt_rules.specs.declared.step.Limits.{Limits}
+use Rattle.mqtt_rules.specs.declared.step.Capacity.{Capacity}
 use Rattle.mqtt_keep.specs.declared.keeping.keep.Keep as keep
 use Rattle.mqtt_records.specs.declared.state.records.Records.{Records}
 use Rattle.mqtt_store.specs.Holding.{Holds, Leaves}
@@ -37,7 +37,7 @@ pub record IsStoreOver (conn store : State) : Type 0 where
 -- the broker runs on the database of a connection: its newest moment is asked for, a store is made over it, in which nothing waits to
 -- be written; the broker begins with it, under these limits, and gives it back after so many turns, and the connection is that store's again
 pub record RunsOnDatabase {S K : Type 0} (g : store.Ghosts S) (k : keep.Ghosts K) (conn_of : K → Held S) (nothing_waits : K → Type 0)
-    (limits : Limits) (turns : ℕ) (conn given : Held S) : Type 0 where
+    (limits : Capacity) (turns : ℕ) (conn given : Held S) : Type 0 where
   pub asked : Held S
   pub is_asked : IsAsked (state g conn) (state g asked)
   pub first : K
@@ -51,7 +51,7 @@ pub record RunsOnDatabase {S K : Type 0} (g : store.Ghosts S) (k : keep.Ghosts K
 module _ {D : Type 0} {g : disk.Ghosts D} where
   -- the broker runs on the database in files: a connection to them shows what they held, and the broker runs on its database
   pub record RunsOnFiles {K : Type 0} (k : keep.Ghosts K) (conn_of : K → Held (FileStore D g)) (nothing_waits : K → Type 0)
-      (files : Image) (limits : Limits) (turns : ℕ) : Type 0 where
+      (files : Image) (limits : Capacity) (turns : ℕ) : Type 0 where
     pub opened : Held (FileStore D g)
     pub left : Held (FileStore D g)
     pub is_new : IsNew opened

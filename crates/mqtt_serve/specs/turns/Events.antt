@@ -1,7 +1,7 @@
 -- The calls of the broker in a turn, as events of which its laws speak: what was asked, and what was answered (MQTT 5.0, 4.1, 4.2).
 use Rattle.std.specs.Prelude.{◌≡◌, ℕ, List, [], ◌∷◌, ◌++◌, Option, Some, None, Result, Ok, Err}
 use Rattle.mqtt_keep.specs.declared.keeping.keep.Keep.{Ghosts}
-use Rattle.mqtt_rules.specs.declared.step.Limits.{Limits}
+use Rattle.mqtt_rules.specs.declared.step.Capacity.{Capacity}
 use Rattle.mqtt_rules.specs.step.Laws.{Asked, Event, after_events}
 use Rattle.mqtt_rules.specs.step.State.{Broker, MemberChoice}
 use Rattle.mqtt_rules.specs.step.Step.{Call, NewLine, bytes_out, told}
@@ -18,30 +18,30 @@ use Rattle.mqtt_serve.specs.turns.Turns.{Server}
 -- ---- one call
 
 -- it is one event, with this choice of members: what goes out, and which lines close, is what that tells
-pub record IsEventBy (limits : Limits) (choice : MemberChoice) (now : ℕ) (call : Call) (b : Broker) (out : Outcome) (events : List Event) : Type 0 where
+pub record IsEventBy (limits : Capacity) (choice : MemberChoice) (now : ℕ) (call : Call) (b : Broker) (out : Outcome) (events : List Event) : Type 0 where
   pub is : events ≡ Asked limits choice now call ∷ []
   pub outputs : out.outputs.items ≡ bytes_out (told limits choice now call b)
   pub closed : out.closed.items ≡ (told limits choice now call b).closed
 
 -- with some choice
-pub record IsEvent (limits : Limits) (now : ℕ) (call : Call) (b : Broker) (out : Outcome) (events : List Event) : Type 0 where
+pub record IsEvent (limits : Capacity) (now : ℕ) (call : Call) (b : Broker) (out : Outcome) (events : List Event) : Type 0 where
   pub choice : MemberChoice
   pub by : IsEventBy limits choice now call b out events
 
 -- bytes came of which nothing is whole: their moment comes alone
-pub record IsMomentOf (limits : Limits) (now : ℕ) (b : Broker) (out : Outcome) (events : List Event) : Type 0 where
+pub record IsMomentOf (limits : Capacity) (now : ℕ) (b : Broker) (out : Outcome) (events : List Event) : Type 0 where
   pub choice : MemberChoice
   pub call : Call
   pub alone : IsMomentAlone limits choice now call b
   pub by : IsEventBy limits choice now call b out events
 
 -- a line is asked for
-pub record IsLineAskedFor (limits : Limits) (now : ℕ) (events : List Event) : Type 0 where
+pub record IsLineAskedFor (limits : Capacity) (now : ℕ) (events : List Event) : Type 0 where
   pub choice : MemberChoice
   pub is : events ≡ Asked limits choice now NewLine ∷ []
 
 -- what is answered Ok is an event, and what is refused is none
-abbrev pub IsOfAnswer : Limits → ℕ → Broker → Result Outcome EngineError → Option Call → List Event → Type 0
+abbrev pub IsOfAnswer : Capacity → ℕ → Broker → Result Outcome EngineError → Option Call → List Event → Type 0
 IsOfAnswer limits now b (Err error) asks events = events ≡ []
 IsOfAnswer limits now b (Ok out) (Some call) events = IsEvent limits now call b out events
 IsOfAnswer limits now b (Ok out) None events = IsMomentOf limits now b out events

@@ -1,7 +1,7 @@
 -- Turns whose steps are stored together, before anything of them goes out (MQTT 5.0, 4.1, 4.2).
 use Rattle.std.specs.Prelude.{◌≡◌, ◌≢◌, ◌⊎◌, ℕ, ◌+◌, ◌<◌, ◌≤◌, max, Bool, true, false, ◌||◌, List, [], ◌∷◌, ◌++◌, length, Option, Result, Ok, Err, ⊤}
 use Rattle.mqtt_keep.specs.declared.keeping.keep.Keep.{Ghosts}
-use Rattle.mqtt_rules.specs.declared.step.Limits.{Limits}
+use Rattle.mqtt_rules.specs.declared.step.Capacity.{Capacity}
 use Rattle.mqtt_broker_step.specs.declared.call.EngineError.{EngineError}
 use Rattle.mqtt_broker_step.specs.declared.call.EngineError.TheVariants.{Memory}
 use Rattle.mqtt_broker.specs.engine.Serving.{Serving}
@@ -178,7 +178,7 @@ pub record RunsAlone {K : Type 0} (g : Ghosts K) (begin turns : ℕ) (old new : 
   pub ran : RunsSettledFor g begin turns told told_then (hosting old (record { calls = link; wires = [] })) (hosting new left)
 
 -- a store is served: the broker begins with it, the opening is stored, and it has so many turns and gives the store back
-pub record Runs {K : Type 0} (g : Ghosts K) (limits : Limits) (begin turns : ℕ) (old new : K) : Type 0 where
+pub record Runs {K : Type 0} (g : Ghosts K) (limits : Capacity) (begin turns : ℕ) (old new : K) : Type 0 where
   pub start : Serving K
   pub first : Serving K
   pub stop : Serving K

@@ -4,7 +4,7 @@ use Rattle.mqtt_keep.specs.declared.keeping.keep.Keep.{Ghosts}
 use Rattle.mqtt_keep.specs.declared.keeping.keep.KeepError.{KeepError}
 use Rattle.mqtt_records.specs.declared.state.records.Records.{Records}
 use Rattle.mqtt_records.specs.state.Records.{nothing}
-use Rattle.mqtt_rules.specs.declared.step.Limits.{Limits}
+use Rattle.mqtt_rules.specs.declared.step.Capacity.{Capacity}
 use Rattle.mqtt_rules.specs.step.Laws.{AreWithin, Asked, Event, Reopened, after_events, blank}
 use Rattle.mqtt_rules.specs.step.State.{Broker, MemberChoice, stored}
 use Rattle.mqtt_rules.specs.step.Step.{Call}
@@ -24,7 +24,7 @@ use Rattle.mqtt_serve.specs.turns.Turns.{Begins}
 -- ---- what a stop leaves of calls
 
 -- what was stored before the call's step, which counts for nothing then; or what is stored after it
-abbrev pub IsLeftByStep : Limits → ℕ → Broker → Option Call → Records → List Event → Type 0
+abbrev pub IsLeftByStep : Capacity → ℕ → Broker → Option Call → Records → List Event → Type 0
 IsLeftByStep limits now b None r events = (events ≡ []) × (r ≡ stored b)
 IsLeftByStep limits now b (Some call) r events = ((events ≡ []) × (r ≡ stored b))
     ⊎ ((next : IsStoredNext limits b now call r) × (events ≡ Asked limits next.choice now call ∷ []))
@@ -47,7 +47,7 @@ IsLeftOf {K} {g} {first} {last} (call_after calls call) r events =
 -- ---- one start
 
 -- the broker began at a moment with the opening of these records, which its store had, and the opening was stored; then it was called
-pub record HasStarted {K : Type 0} (g : Ghosts K) (limits : Limits) (r : Records) (last : Serving K) : Type 0 where
+pub record HasStarted {K : Type 0} (g : Ghosts K) (limits : Capacity) (r : Records) (last : Serving K) : Type 0 where
   pub keep : K
   pub begin : ℕ
   pub start : Serving K
@@ -58,7 +58,7 @@ pub record HasStarted {K : Type 0} (g : Ghosts K) (limits : Limits) (r : Records
   pub calls : AreCalls g first last
 
 -- then it was stopped, after its turns or amid one: what is opened next may have these records
-pub record WasStopped {K : Type 0} (g : Ghosts K) (limits : Limits) (r left : Records) : Type 0 where
+pub record WasStopped {K : Type 0} (g : Ghosts K) (limits : Capacity) (r left : Records) : Type 0 where
   pub last : Serving K
   pub started : HasStarted g limits r last
   pub sound : g.is_sound last.running.keep
@@ -71,7 +71,7 @@ store_behind (Err e) = e.0
 
 -- or it was stopped before its opening was stored for good: its store has these records, and nothing that waits to be written; the broker
 -- began, or the opening was refused; and what is opened next may have what a crash leaves then
-pub record WasOpening {K : Type 0} (g : Ghosts K) (limits : Limits) (now : ℕ) (r left : Records) : Type 0 where
+pub record WasOpening {K : Type 0} (g : Ghosts K) (limits : Capacity) (now : ℕ) (r left : Records) : Type 0 where
   pub keep : K
   pub settled : g.is_settled keep
   pub has : g.holds keep r
@@ -82,7 +82,7 @@ pub record WasOpening {K : Type 0} (g : Ghosts K) (limits : Limits) (now : ℕ) 
 
 -- a store was served and given back, and has not failed: what the broker began with is what the store had, and such as a crash of it may
 -- leave
-pub record WasServed {K : Type 0} (g : Ghosts K) (limits : Limits) (keep given : K) : Type 0 where
+pub record WasServed {K : Type 0} (g : Ghosts K) (limits : Capacity) (keep given : K) : Type 0 where
   pub found : Records
   pub last : Serving K
   pub started : HasStarted g limits found last
@@ -97,14 +97,14 @@ pub record WasServed {K : Type 0} (g : Ghosts K) (limits : Limits) (keep given :
 -- The first begins with nothing stored, each other with what the one before left, each with limits of its own
 pub data AreStarts {K : Type 0} (g : Ghosts K) : Records → Type 0 where
   no_start : AreStarts g nothing
-  served : {r : Records} (limits : Limits) (left : Records) → AreWithin limits → AreStarts g r → WasStopped g limits r left → AreStarts g left
-  only_opened : {r : Records} (limits : Limits) (now : ℕ) (left : Records) → AreWithin limits → AreStarts g r → WasOpening g limits now r left
+  served : {r : Records} (limits : Capacity) (left : Records) → AreWithin limits → AreStarts g r → WasStopped g limits r left → AreStarts g left
+  only_opened : {r : Records} (limits : Capacity) (now : ℕ) (left : Records) → AreWithin limits → AreStarts g r → WasOpening g limits now r left
       → AreStarts g left
 
 -- ---- the events of starts
 
 -- those before it, the opening, and what is left of its calls
-pub record IsOfStart {K : Type 0} {g : Ghosts K} {limits : Limits} {r left : Records} (earlier : List Event → Type 0) (stop : WasStopped g limits r left)
+pub record IsOfStart {K : Type 0} {g : Ghosts K} {limits : Capacity} {r left : Records} (earlier : List Event → Type 0) (stop : WasStopped g limits r left)
     (events : List Event) : Type 0 where
   pub before : List Event
   pub choice : MemberChoice
@@ -114,7 +114,7 @@ pub record IsOfStart {K : Type 0} {g : Ghosts K} {limits : Limits} {r left : Rec
   pub is : events ≡ before ++ Reopened limits choice stop.started.begin ∷ since
 
 -- an opening that was stored
-pub record IsOfOpening (limits : Limits) (now : ℕ) (r left : Records) (events : List Event) : Type 0 where
+pub record IsOfOpening (limits : Capacity) (now : ℕ) (r left : Records) (events : List Event) : Type 0 where
   pub after : IsStoredAfter limits now r left
   pub is : events ≡ Reopened limits after.choice now ∷ []
 
@@ -137,7 +137,7 @@ pub record KeepAllLeft {K : Type 0} {g : Ghosts K} {left : Records} (starts : Ar
   pub keep : KeepsAll (course_of events blank)
 
 -- and with all calls so far of a start on what they left
-pub record KeepAllSoFar {K : Type 0} {g : Ghosts K} {limits : Limits} {r : Records} {last : Serving K} (starts : AreStarts g r)
+pub record KeepAllSoFar {K : Type 0} {g : Ghosts K} {limits : Capacity} {r : Records} {last : Serving K} (starts : AreStarts g r)
     (started : HasStarted g limits r last) : Type 0 where
   pub before : List Event
   pub choice : MemberChoice

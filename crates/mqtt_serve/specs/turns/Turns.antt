@@ -8,7 +8,7 @@ use Rattle.mqtt_broker_step.specs.declared.call.EngineError.{EngineError}
 use Rattle.mqtt_broker_step.specs.declared.call.EngineError.TheVariants.{Memory, Stopped, Spent}
 use Rattle.mqtt_broker.specs.stored.Calling.{KeepsLines}
 use Rattle.mqtt_broker.specs.declared.stored.outcome.Outcome.{Outcome}
-use Rattle.mqtt_rules.specs.declared.step.Limits.{Limits}
+use Rattle.mqtt_rules.specs.declared.step.Capacity.{Capacity}
 use Rattle.mqtt_rules.specs.step.State.{Broker}
 use Rattle.mqtt_rules.specs.step.Step.{BrokerOpening, BrokerStep, NewLine, Lost, Pump, Tick, nothing_told}
 use Rattle.mqtt_broker_step.specs.Doing.{next_line}
@@ -215,7 +215,7 @@ pub data Ticks {K : Type 0} (g : Ghosts K) (now limit : ℕ) (old new : Server (
 
 -- the broker is asked for a line
 pub record LinkCalled {K : Type 0} (now : ℕ) (old : Serving K) (result : Option ℕ) (new : Serving K) : Type 0 where
-  pub line : result ≡ next_line old.running.broker
+  pub line : result ≡ next_line old.running.limits old.running.broker
   pub step : BrokerStep old.running.limits old.running.broker now NewLine nothing_told new.running.broker
   pub same : new.running ≡ record old.running { broker = new.running.broker }
   pub held : new.held ≡ with_linked result old.held
@@ -304,7 +304,7 @@ RunsFor g begin turns told told_then old new = RunsBy (HasTurn g) begin turns to
 -- ---- a store is served: the broker begins at a moment with the opening of what the store held, with these limits, has so many
 -- turns from then on, over a link without connections, and gives the store back (4.1)
 
-pub record Begins {K : Type 0} (g : Ghosts K) (limits : Limits) (moment : ℕ) (keep : K) (start : Serving K) : Type 0 where
+pub record Begins {K : Type 0} (g : Ghosts K) (limits : Capacity) (moment : ℕ) (keep : K) (start : Serving K) : Type 0 where
   pub records : Records
   -- what the store has, and such as a crash of it may leave; of a device that lied nothing is said
   pub exact : (held : Records) → g.holds keep held → g.is_sound start.running.keep → records ≡ held

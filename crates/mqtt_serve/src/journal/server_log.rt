@@ -14,7 +14,7 @@ use mqtt_broker::{Engine, Outcome};
 use mqtt_broker_step::EngineError;
 use mqtt_flow::Full;
 use mqtt_keep::Keep;
-use mqtt_rules::Limits;
+use mqtt_rules::Capacity;
 use std::alloc::{AllocError, Global};
 use std::io;
 use std::net::SocketAddr;
@@ -35,7 +35,7 @@ pub struct ServerLog<W: io::Write + Drop> {
 }
 
 /// What queues and retained messages are held to by the limits of a broker.
-fn bounds_of(limits: Limits) -> Bounds {
+fn bounds_of(limits: Capacity) -> Bounds {
     Bounds {
         queue: limits.queue,
         full: match limits.full {

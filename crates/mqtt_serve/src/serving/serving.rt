@@ -23,7 +23,7 @@ use crate::turns::{Links, run_settled_turns};
 use mqtt_broker::Engine;
 use mqtt_keep::{Keep, Settles};
 use mqtt_link::{Commit, HeldBack};
-use mqtt_rules::Limits;
+use mqtt_rules::Capacity;
 use mqtt_store::SqlKeep;
 use sqlite::{Alter, Connection, FileFrom, FileStore, Start};
 use std::io::Write;
@@ -137,7 +137,7 @@ pub fn serve_over<K: Settles, W: Write, J: Journal>(
     begin: u64,
     turns: u32,
     writer: &mut W,
-    limits: Limits,
+    limits: Capacity,
     journal: &mut J,
 ) -> Result<K, (Cause, K)>
     requires { AreWithin limits }
@@ -167,7 +167,7 @@ fn serve_database<S: Alter + Drop, W: Write, J: Journal>(
     mut conn: Connection<S>,
     turns: u32,
     writer: &mut W,
-    limits: Limits,
+    limits: Capacity,
     commit: Commit,
     journal: &mut J,
 ) -> Result<Connection<S>, (Cause, S)>
@@ -192,7 +192,7 @@ fn serve_file<W: Write, S: Start, J: Journal>(
     db: &str,
     turns: u32,
     writer: &mut W,
-    limits: Limits,
+    limits: Capacity,
     commit: Commit,
     start: S,
     journal: &mut J,
@@ -232,7 +232,7 @@ pub fn serve<W: Write, S: Start, J: Journal>(
     db: &str,
     turns: u32,
     writer: &mut W,
-    limits: Limits,
+    limits: Capacity,
     commit: Commit,
     start: S,
     journal: &mut J,

@@ -18,7 +18,7 @@ use crate::causes::{Cause, of_database, of_load, of_tally, why_not};
 use crate::database::make_database;
 use mqtt_broker::Engine;
 use mqtt_keep::Keep;
-use mqtt_rules::Limits;
+use mqtt_rules::Capacity;
 use mqtt_store::SqlKeep;
 use sqlite::{Alter, Connection, FileFrom, FileStore, Start};
 use sqlite_disk::Disk;
@@ -103,7 +103,7 @@ pub(crate) fn open_engine<K: Keep>(
     rt: &HostRuntime,
     keep: K,
     moment: u64,
-    limits: Limits,
+    limits: Capacity,
 ) -> Result<Engine<K>, (Cause, K)>
     requires { AreWithin limits }
     ensures begun { IfOk result (λ engine. Begins K.Keep limits moment keep engine) }
@@ -112,7 +112,7 @@ pub(crate) fn open_engine<K: Keep>(
     let Ok(hasher) = RandomState::new(rt) else {
         return Err((Cause::Memory, keep));
     };
-    match Engine::open(rt.alloc(), keep, moment, limits, hasher) {
+    match Engine::with_capacity(rt.alloc(), keep, moment, limits, hasher) {
         Ok(engine) => Ok(engine),
         Err((keep, error)) => Err((of_load(error), keep)),
     }

@@ -2,18 +2,19 @@
 ghost use Rattle.mqtt_rules.specs.step.Laws.{AreWithin};
 
 use mqtt_flow::Full;
-use mqtt_serve::{Cause, Commit, Limits, Quiet, Unknown, serve};
+use mqtt_serve::{Capacity, Cause, Commit, Quiet, Unknown, serve};
 use std::io::{ErrorKind, Read, Write};
 use std::net::{Ipv4Addr, SocketAddr, TcpStream};
 use std::test::Fail;
 use std::{fs, io, str};
 
 /// The limits of the tables; a full queue refuses.
-pub const LIMITS: Limits = Limits {
+pub const LIMITS: Capacity = Capacity {
     full: Full::Refuse,
     queue: 1_000,
     sessions: 1_000,
     retained: 1_000,
+    lines: 64,
 };
 
 /// Any port of this machine that is free.
@@ -69,7 +70,7 @@ pub fn is_answered(
     rt: &HostRuntime,
     db: &str,
     turns: u32,
-    limits: Limits,
+    limits: Capacity,
     sends: &[u8],
     answer: &[u8],
 ) -> Result<bool, Cause>
@@ -109,7 +110,7 @@ pub type Run = (&'static str, &'static [u8], &'static [u8]);
 pub fn first_wrong(
     rt: &HostRuntime,
     db: &str,
-    limits: Limits,
+    limits: Capacity,
     runs: &'static [Run],
 ) -> Result<&'static str, Fail>
     requires { AreWithin limits }

@@ -1,19 +1,20 @@
 //! The limits that a server is given (MQTT 5.0, 3.3.4, 3.4.2.1, 4.9).
 use crate::serving::callers::{Run, first_wrong, forget};
 use mqtt_flow::Full;
-use mqtt_serve::Limits;
+use mqtt_serve::Capacity;
 use std::test::Fail;
 
 /// One message in a queue, of which the oldest makes way, two sessions and one retained message.
-const DROP: Limits = Limits {
+const DROP: Capacity = Capacity {
     full: Full::Drop,
     queue: 1,
     sessions: 2,
     retained: 1,
+    lines: 64,
 };
 
 /// The same, if a full queue refuses.
-const REFUSE: Limits = Limits {
+const REFUSE: Capacity = Capacity {
     full: Full::Refuse,
     ..DROP
 };

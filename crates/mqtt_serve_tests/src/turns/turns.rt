@@ -113,6 +113,24 @@ pub(crate) fn play(
     done
 }
 
+/// The same over a broker that is asked for so many lines.
+fn play_with(
+    links: &mut Links<Clients>,
+    alloc: Global,
+    hasher: RandomState,
+    count: u64,
+    lines: u32,
+) -> Result<(), Fail> {
+    let capacity = LIMITS.with_lines(lines);
+    let Ok(mut engine) = Engine::with_capacity(alloc, MemKeep::new(alloc)?, 0, capacity, hasher)
+    else {
+        return Err(Fail::from("the broker can't be opened"));
+    };
+    let done = turns(links, &mut engine, count);
+    drop(engine.close());
+    done
+}
+
 /// Whether bytes are these two behind each other.
 pub(crate) fn are(bytes: &[u8], first: &[u8], second: &[u8]) -> bool {
     match bytes.strip_prefix(first) {
@@ -190,5 +208,35 @@ fn the_sixty_fifth_connection_is_not_served(rt: HostRuntime) -> Result<(), Fail>
     assert!(rt; is_last_served);
     assert!(rt; !is_one_more_served);
     assert_eq!(rt; count, 64);
+    Ok(())
+}
+
+#[test]
+fn as_many_connections_are_served_as_are_asked_for(rt: HostRuntime) -> Result<(), Fail> {
+    let clients = Clients::new(rt.alloc(), &[NAMELESS; 65], 4096, None)?;
+    let mut links = Links::new(rt.alloc(), clients)?;
+    let done = play_with(&mut links, rt.alloc(), RandomState::new(&rt)?, 70, 65);
+    let is_last_served = links.link().taken(64).starts_with(b"\x20");
+    let count = links.len();
+    drop(links);
+    done?;
+    assert!(rt; is_last_served);
+    assert_eq!(rt; count, 65);
+    Ok(())
+}
+
+#[test]
+fn a_third_connection_is_not_served_where_two_are_asked_for(rt: HostRuntime) -> Result<(), Fail> {
+    let clients = Clients::new(rt.alloc(), &[NAMELESS; 3], 4096, None)?;
+    let mut links = Links::new(rt.alloc(), clients)?;
+    let done = play_with(&mut links, rt.alloc(), RandomState::new(&rt)?, 10, 2);
+    let is_last_served = links.link().taken(1).starts_with(b"\x20");
+    let is_one_more_served = !links.link().taken(2).is_empty();
+    let count = links.len();
+    drop(links);
+    done?;
+    assert!(rt; is_last_served);
+    assert!(rt; !is_one_more_served);
+    assert_eq!(rt; count, 2);
     Ok(())
 }

@@ -5,7 +5,7 @@ use Rattle.mqtt_rules.specs.step.Contents.{AreContentsLawful, of_rows}
 use Rattle.mqtt_rules.specs.step.Laws.{AreWithin}
 use Rattle.mqtt_rules.specs.step.State.{MemberChoice}
 use Rattle.mqtt_rules.specs.step.Step.{is_opening_spent}
-use Rattle.mqtt_rules.specs.declared.step.Limits.{Limits}
+use Rattle.mqtt_rules.specs.declared.step.Capacity.{Capacity}
 use Rattle.mqtt_broker_acts.proofs.calls_lemmas.Flights.{lawful_flight}
 use Rattle.mqtt_rules.proofs.step_lemmas.contents.ContentLaw.{opening_contents}
 use Rattle.mqtt_rules.proofs.step_lemmas.contents.LawfulContents.{lawful_contents}
@@ -33,7 +33,7 @@ pub retained_once : (r : Records) → IsWritten r → AreRetainedOnce r
 retained_once r w = w.publications
 
 -- a world may begin on what a broker wrote, if identifiers of copies in flight have two bytes
-pub written_begins : (limits : Limits) (choice : MemberChoice) (now : ℕ) (r : Records) → AreWithin limits → IsWritten r → HaveSentPhases r → is_opening_spent limits choice now r ≡ false → BeginsWell limits (opened_world limits choice now r)
+pub written_begins : (limits : Capacity) (choice : MemberChoice) (now : ℕ) (r : Records) → AreWithin limits → IsWritten r → HaveSentPhases r → is_opening_spent limits choice now r ≡ false → BeginsWell limits (opened_world limits choice now r)
 written_begins limits choice now r within w phases unspent =
     let lawful = w.lawful in
     let f = facts_of r w in
@@ -45,25 +45,25 @@ written_begins limits choice now r within w phases unspent =
     }
 
 -- its contents are lawful
-pub written_contents : (limits : Limits) (choice : MemberChoice) (now : ℕ) (r : Records) → IsWritten r → AreContentsLawful (opened_world limits choice now r).broker
+pub written_contents : (limits : Capacity) (choice : MemberChoice) (now : ℕ) (r : Records) → IsWritten r → AreContentsLawful (opened_world limits choice now r).broker
 written_contents limits choice now r w = opening_contents of_rows rows_are limits choice now r (lawful_contents r w.lawful)
 
 -- it sends well, if identifiers of copies in flight have two bytes
-pub written_sends : (limits : Limits) (choice : MemberChoice) (now : ℕ) (r : Records) → IsWritten r → HaveSentPhases r → is_opening_spent limits choice now r ≡ false → SendsWell (opened_world limits choice now r).broker
+pub written_sends : (limits : Capacity) (choice : MemberChoice) (now : ℕ) (r : Records) → IsWritten r → HaveSentPhases r → is_opening_spent limits choice now r ≡ false → SendsWell (opened_world limits choice now r).broker
 written_sends limits choice now r w phases unspent = well_begun limits choice now r unspent w.lawful phases
 
 -- and what is played in it is delivered exactly once
-pub written_delivers : (limits : Limits) (choice : MemberChoice) (now : ℕ) (r : Records) (ds : List Doing) → AreWithin limits → IsWritten r → HaveSentPhases r → is_opening_spent limits choice now r ≡ false → IsFairScript limits ds (opened_world limits choice now r)
+pub written_delivers : (limits : Capacity) (choice : MemberChoice) (now : ℕ) (r : Records) (ds : List Doing) → AreWithin limits → IsWritten r → HaveSentPhases r → is_opening_spent limits choice now r ≡ false → IsFairScript limits ds (opened_world limits choice now r)
     → DoingsDeliver limits ds (opened_world limits choice now r)
 written_delivers limits choice now r ds within w phases unspent fair = script_delivers limits ds (opened_world limits choice now r) (written_begins limits choice now r within w phases unspent) fair
 
 -- ---- what a broker has left
 
 -- a world may begin on it, whatever faults came on its lines
-pub left_begins : (limits : Limits) (choice : MemberChoice) (now : ℕ) (r : Records) → AreWithin limits → WasLeft r → is_opening_spent limits choice now r ≡ false → BeginsWell limits (opened_world limits choice now r)
+pub left_begins : (limits : Capacity) (choice : MemberChoice) (now : ℕ) (r : Records) → AreWithin limits → WasLeft r → is_opening_spent limits choice now r ≡ false → BeginsWell limits (opened_world limits choice now r)
 left_begins limits choice now r within left unspent = written_begins limits choice now r within (left_written r left) (left_phases r left) unspent
 
 -- and what is played in it is delivered exactly once
-pub left_delivers : (limits : Limits) (choice : MemberChoice) (now : ℕ) (r : Records) (ds : List Doing) → AreWithin limits → WasLeft r → is_opening_spent limits choice now r ≡ false → IsFairScript limits ds (opened_world limits choice now r)
+pub left_delivers : (limits : Capacity) (choice : MemberChoice) (now : ℕ) (r : Records) (ds : List Doing) → AreWithin limits → WasLeft r → is_opening_spent limits choice now r ≡ false → IsFairScript limits ds (opened_world limits choice now r)
     → DoingsDeliver limits ds (opened_world limits choice now r)
 left_delivers limits choice now r ds within left unspent fair = script_delivers limits ds (opened_world limits choice now r) (left_begins limits choice now r within left unspent) fair

@@ -17,7 +17,7 @@ use Rattle.mqtt_rules.specs.step.Packets.{connack, disconnect}
 use Rattle.mqtt_rules.specs.step.State.{Broker, Env, Line, MemberChoice, Telling, line_at}
 use Rattle.mqtt_rules.specs.step.Step.{BadInput, Call, Input, Lost, NewLine, Pump, Tick, at_moment, done, env_of, is_opening_spent, is_spent, is_step_spent, late_code, on_fault, rows_written, stamped, stepped, with_moment}
 use Rattle.mqtt_rules.specs.step.Deeds.{Send, after, after_all, rows_of_all, tells, tells_on, with_line}
-use Rattle.mqtt_rules.specs.declared.step.Limits.{Limits}
+use Rattle.mqtt_rules.specs.declared.step.Capacity.{Capacity}
 use Rattle.mqtt_rules.proofs.step_lemmas.contents.LawfulContents.{lawful_contents}
 use Rattle.mqtt_rules.proofs.step_lemmas.fit.LawfulRecords.{lawful_coherent}
 use Rattle.mqtt_topic.specs.sending.Told.{ToldTopics}
@@ -109,7 +109,7 @@ takes_lawful (Lost n) h = tt
 takes_lawful (Pump n) h = tt
 takes_lawful Tick h = tt
 
-same_step : (limits : Limits) (choice : MemberChoice) (now : ℕ) (call : Call) (b : Broker) → stepped limits choice now (as_fault call) b ≡ stepped limits choice now call b
+same_step : (limits : Capacity) (choice : MemberChoice) (now : ℕ) (call : Call) (b : Broker) → stepped limits choice now (as_fault call) b ≡ stepped limits choice now call b
 same_step limits choice now NewLine b = refl
 same_step limits choice now (Input n packet) b = refl
 same_step limits choice now (BadInput n t code) b = let c = at_moment now b in line_done (env_of limits choice b) t (code_of (answer_to Malformed)) code (line_at n c) c
@@ -117,7 +117,7 @@ same_step limits choice now (Lost n) b = refl
 same_step limits choice now (Pump n) b = refl
 same_step limits choice now Tick b = refl
 
-same_spent : (limits : Limits) (choice : MemberChoice) (now : ℕ) (call : Call) (b : Broker) → is_step_spent limits choice now (as_fault call) b ≡ is_step_spent limits choice now call b
+same_spent : (limits : Capacity) (choice : MemberChoice) (now : ℕ) (call : Call) (b : Broker) → is_step_spent limits choice now (as_fault call) b ≡ is_step_spent limits choice now call b
 same_spent limits choice now NewLine b = refl
 same_spent limits choice now (Input n packet) b = refl
 same_spent limits choice now (BadInput n t code) b = let c = at_moment now b in ap is_spent (line_rows (env_of limits choice b) t (code_of (answer_to Malformed)) code (line_at n c) c)
@@ -151,5 +151,5 @@ pub left_phases : (r : Records) → WasLeft r → HaveSentPhases r
 left_phases r w = subst HaveSentPhases w.is (events_send w.events blank w.fair blank_sends).phases
 
 -- a broker that is opened on it sends well
-pub left_sends : (limits : Limits) (choice : MemberChoice) (now : ℕ) (r : Records) → WasLeft r → is_opening_spent limits choice now r ≡ false → SendsWell (opened_world limits choice now r).broker
+pub left_sends : (limits : Capacity) (choice : MemberChoice) (now : ℕ) (r : Records) → WasLeft r → is_opening_spent limits choice now r ≡ false → SendsWell (opened_world limits choice now r).broker
 left_sends limits choice now r w unspent = well_begun limits choice now r unspent (left_written r w).lawful (left_phases r w)

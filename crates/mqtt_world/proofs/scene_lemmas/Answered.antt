@@ -9,7 +9,7 @@ use Rattle.mqtt_broker.specs.declared.stored.outcome.Outcome.{Outcome}
 use Rattle.mqtt_rules.specs.step.Deeds.{Deed, Send, after, output, report, wires}
 use Rattle.mqtt_rules.specs.step.State.{Broker, MemberChoice}
 use Rattle.mqtt_rules.specs.step.Step.{Call, at_moment, deeds, deeds_of, done, env_of, is_spent, is_step_spent, outcome_of, rows_written, stepped, told, Outcome as Answer}
-use Rattle.mqtt_rules.specs.declared.step.Limits.{Limits}
+use Rattle.mqtt_rules.specs.declared.step.Capacity.{Capacity}
 use Rattle.mqtt_broker_step.specs.declared.call.EngineError.{EngineError}
 use Rattle.mqtt_broker.specs.engine.Serving.{Serving, Served, has_closed}
 use Rattle.mqtt_broker.specs.engine.Framers.{HeldLine}
@@ -30,15 +30,15 @@ pub at_capped : (now : ℕ) (b : Broker) → at_moment (min now LAST_NUMBER) b �
 at_capped now b = ap (λ (n : ℕ). record b { now = max b.now n }) (min_twice now LAST_NUMBER)
 
 -- a step at the capped moment leads to the same broker
-pub stepped_capped : (limits : Limits) (choice : MemberChoice) (now : ℕ) (call : Call) (b : Broker) → stepped limits choice (min now LAST_NUMBER) call b ≡ stepped limits choice now call b
+pub stepped_capped : (limits : Capacity) (choice : MemberChoice) (now : ℕ) (call : Call) (b : Broker) → stepped limits choice (min now LAST_NUMBER) call b ≡ stepped limits choice now call b
 stepped_capped limits choice now call b = ap (λ x. done (deeds_of (env_of limits choice b) call x) x) (at_capped now b)
 
 -- and it does the same deeds
-pub deeds_capped : (limits : Limits) (choice : MemberChoice) (now : ℕ) (call : Call) (b : Broker) → deeds limits choice (min now LAST_NUMBER) call b ≡ deeds limits choice now call b
+pub deeds_capped : (limits : Capacity) (choice : MemberChoice) (now : ℕ) (call : Call) (b : Broker) → deeds limits choice (min now LAST_NUMBER) call b ≡ deeds limits choice now call b
 deeds_capped limits choice now call b = ap (deeds_of (env_of limits choice b) call) (at_capped now b)
 
 -- and tells the same
-pub told_capped : (limits : Limits) (choice : MemberChoice) (now : ℕ) (call : Call) (b : Broker) → told limits choice (min now LAST_NUMBER) call b ≡ told limits choice now call b
+pub told_capped : (limits : Capacity) (choice : MemberChoice) (now : ℕ) (call : Call) (b : Broker) → told limits choice (min now LAST_NUMBER) call b ≡ told limits choice now call b
 told_capped limits choice now call b = ap (λ x. outcome_of call (deeds_of (env_of limits choice b) call x) x) (at_capped now b)
 
 -- as many packets go out as are meant
@@ -48,14 +48,14 @@ wires_count (Send n packet ∷ ds) b = ap suc (wires_count ds (after (Send n pac
 wires_count (d ∷ ds) b = wires_count ds (after d b)
 
 -- so the one or the other may be told
-pub told_count : (limits : Limits) (choice : MemberChoice) (now : ℕ) (call : Call) (b : Broker) → let t = told limits choice now call b in
+pub told_count : (limits : Capacity) (choice : MemberChoice) (now : ℕ) (call : Call) (b : Broker) → let t = told limits choice now call b in
     record { reports = t.reports; out = length t.wires } ≡ telling (deeds limits choice now call b)
 told_count limits choice now call b =
     let ds = deeds limits choice now call b in
     ap (λ (n : ℕ). record { reports = filter_map report ds; out = n }) (wires_count ds (at_moment now b))
 
 -- and it is out of numbers exactly if it is at the moment itself
-pub spent_capped : (limits : Limits) (choice : MemberChoice) (now : ℕ) (call : Call) (b : Broker) → is_step_spent limits choice (min now LAST_NUMBER) call b ≡ is_step_spent limits choice now call b
+pub spent_capped : (limits : Capacity) (choice : MemberChoice) (now : ℕ) (call : Call) (b : Broker) → is_step_spent limits choice (min now LAST_NUMBER) call b ≡ is_step_spent limits choice now call b
 spent_capped limits choice now call b = ap (λ x. is_spent (rows_written (deeds_of (env_of limits choice b) call x) x)) (at_capped now b)
 
 -- ---- what lines hold

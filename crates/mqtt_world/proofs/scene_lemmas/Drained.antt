@@ -9,7 +9,7 @@ use Rattle.mqtt_world_model.specs.model.World.{Event, Stranger, World, ask, pump
 use Rattle.mqtt_world_laws.specs.receiver.Drains.{copies_left, downs_by, is_bad_drain, is_none_left, is_over, line_stands, ups_by}
 use Rattle.mqtt_broker.specs.engine.Serving.{Serving}
 use Rattle.mqtt_broker.specs.stored.Running.{Running}
-use Rattle.mqtt_rules.specs.declared.step.Limits.{Limits}
+use Rattle.mqtt_rules.specs.declared.step.Capacity.{Capacity}
 use Rattle.mqtt_world.specs.clients.Ends.{Ends, in_world}
 use Rattle.mqtt_world_laws.specs.knowing.Knowing.{HasKnowingEnds}
 use Rattle.mqtt_world.proofs.scene_lemmas.StayKnowing.{repeats_knowing, rounds_knowing, turn_knowing}
@@ -115,8 +115,8 @@ nothing_behind t =
 -- ---- what happens behind what happened
 
 module _ {K : Type 0} (g : Ghosts K) (now : ℕ) where
-  goes_none : (P : Limits → Telling → World → World → Type 0) (s : Played K) (told : Telling) → IsPlayable g s
-      → ((limits : Limits) (w : World) → P limits silent w w) → GoesOn g now P s told told s
+  goes_none : (P : Capacity → Telling → World → World → Type 0) (s : Played K) (told : Telling) → IsPlayable g s
+      → ((limits : Capacity) (w : World) → P limits silent w w) → GoesOn g now P s told told s
   goes_none P s told playable none = record {
     playable = playable;
     limits = refl;
@@ -128,8 +128,8 @@ module _ {K : Type 0} (g : Ghosts K) (now : ℕ) where
   }
 
   -- the same, said in other words of these worlds
-  pub goes_as : (P Q : Limits → Telling → World → World → Type 0) (old new : Played K) (before after : Telling)
-      → ((limits : Limits) (t : Telling) (ss : List Stranger) → P limits t (world_of now ss old) (world_of now ss new)
+  pub goes_as : (P Q : Capacity → Telling → World → World → Type 0) (old new : Played K) (before after : Telling)
+      → ((limits : Capacity) (t : Telling) (ss : List Stranger) → P limits t (world_of now ss old) (world_of now ss new)
       → Q limits t (world_of now ss old) (world_of now ss new))
       → GoesOn g now P old before after new → GoesOn g now Q old before after new
   goes_as P Q old new before after says x = record {
@@ -142,9 +142,9 @@ module _ {K : Type 0} (g : Ghosts K) (now : ℕ) where
     done = λ sound spells reached ss knowing. says old.engine.running.limits x.t ss (x.done sound spells reached ss knowing);
   }
 
-  goes_behind : (P Q R : Limits → Telling → World → World → Type 0) (old mid new : Played K) (before between after : Telling)
-      → ((limits : Limits) (t : Telling) (w v : World) → P limits t w v → HasKnowingEnds w → HasKnowingEnds v)
-      → ((limits : Limits) (t u : Telling) (w v x : World) → P limits t w v → Q limits u v x → R limits (both_tell t u) w x)
+  goes_behind : (P Q R : Capacity → Telling → World → World → Type 0) (old mid new : Played K) (before between after : Telling)
+      → ((limits : Capacity) (t : Telling) (w v : World) → P limits t w v → HasKnowingEnds w → HasKnowingEnds v)
+      → ((limits : Capacity) (t u : Telling) (w v x : World) → P limits t w v → Q limits u v x → R limits (both_tell t u) w x)
       → GoesOn g now P old before between mid → GoesOn g now Q mid between after new → GoesOn g now R old before after new
   goes_behind P Q R old mid new before between after keeps joins x y =
       let limits = old.engine.running.limits in
@@ -153,23 +153,23 @@ module _ {K : Type 0} (g : Ghosts K) (now : ℕ) where
         limits = y.limits ∙ x.limits;
         sound = λ sound. x.sound (y.sound sound);
         reached = λ sound reached.
-            subst (λ (l : Limits). IsReached l new.engine.running.broker) x.limits
-            (y.reached sound (subst (λ (l : Limits). IsReached l mid.engine.running.broker) (sym x.limits) (x.reached (y.sound sound) reached)));
+            subst (λ (l : Capacity). IsReached l new.engine.running.broker) x.limits
+            (y.reached sound (subst (λ (l : Capacity). IsReached l mid.engine.running.broker) (sym x.limits) (x.reached (y.sound sound) reached)));
         t = both_tell x.t y.t;
         told = y.told ∙ (ap (λ (z : Telling). both_tell z y.t) x.told ∙ tells_after before x.t y.t);
         done = λ sound spells reached ss knowing.
             let was = y.sound sound in
             let first = x.done was spells reached ss knowing in
             joins limits x.t y.t (world_of now ss old) (world_of now ss mid) (world_of now ss new) first
-            (subst (λ (l : Limits). Q l y.t (world_of now ss mid) (world_of now ss new)) x.limits
+            (subst (λ (l : Capacity). Q l y.t (world_of now ss mid) (world_of now ss new)) x.limits
             (y.done sound (subst SpellsAll (sym x.limits) spells)
-            (subst (λ (l : Limits). IsReached l mid.engine.running.broker) (sym x.limits) (x.reached was reached)) ss (keeps limits x.t (world_of now ss old) (world_of now ss mid) first knowing)));
+            (subst (λ (l : Capacity). IsReached l mid.engine.running.broker) (sym x.limits) (x.reached was reached)) ss (keeps limits x.t (world_of now ss old) (world_of now ss mid) first knowing)));
       }
 
   -- ---- one turn
 
   goes_once : (e : Event) (old new : Played K) (t before after : Telling)
-      → ((limits : Limits) (u : Telling) (w v : World) → Happens limits e u w v → IsTurn limits e u w v)
+      → ((limits : Capacity) (u : Telling) (w v : World) → Happens limits e u w v → IsTurn limits e u w v)
       → Does g now e old (Some t) new → after ≡ both_tell before t → GoesOn g now (once e) old before after new
   goes_once e old new t before after turns does told = record {
     playable = does.playable;
@@ -183,7 +183,7 @@ module _ {K : Type 0} (g : Ghosts K) (now : ℕ) where
 
   -- if what is told was added
   pub goes_added : {U : Type 0} (e : Event) (old new : Played K) (more : Option Telling) (before after : Telling) (r : Result U Over)
-      → ((limits : Limits) (u : Telling) (w v : World) → Happens limits e u w v → IsTurn limits e u w v) → Does g now e old more new
+      → ((limits : Capacity) (u : Telling) (w v : World) → Happens limits e u w v → IsTurn limits e u w v) → Does g now e old more new
       → OnOk r ((t : Telling) × (more ≡ Some t) × (after ≡ both_tell before t)) → OnOk r (GoesOn g now (once e) old before after new)
   goes_added e old new more before after (Ok u) turns does (t, some, told) =
       goes_once e old new t before after turns (subst (λ (o : Option Telling). Does g now e old o new) some does) told
@@ -223,12 +223,12 @@ module _ {K : Type 0} (g : Ghosts K) (now : ℕ) where
 
   -- ---- a round
 
-  abbrev reads_and_answers : List ℕ → Limits → Telling → World → World → Type 0
+  abbrev reads_and_answers : List ℕ → Capacity → Telling → World → World → Type 0
   reads_and_answers client limits t w after =
       (second : Telling) × (third : Telling) × (read : World) × reads_all client limits second w read × answers_all client limits third read after
       × (t ≡ both_tell second third)
 
-  round_is : (client : List ℕ) (limits : Limits) (t u : Telling) (w v after : World) → once (ask (pump client)) limits t w v
+  round_is : (client : List ℕ) (limits : Capacity) (t u : Telling) (w v after : World) → once (ask (pump client)) limits t w v
       → reads_and_answers client limits u v after → IsRound limits client (both_tell t u) w after
   round_is client limits t u w v after sends (second, third, read, reads, answers, told) = record {
     first = t;
@@ -259,7 +259,7 @@ module _ {K : Type 0} (g : Ghosts K) (now : ℕ) where
   pub no_round_yet : (client : List ℕ) (s : Played K) (told : Telling) → IsPlayable g s → GoesOn g now (so_many_rounds client 0) s told told s
   no_round_yet client s told playable = goes_none (so_many_rounds client 0) s told playable (λ limits w. (refl, refl))
 
-  abbrev going_round : List ℕ → Limits → Telling → World → World → Type 0
+  abbrev going_round : List ℕ → Capacity → Telling → World → World → Type 0
   going_round client limits t w after = (is_over client w ≡ false) × IsRound limits client t w after
 
   -- if the drain was not over yet, a round behind so many is one more
@@ -315,7 +315,7 @@ module _ {K : Type 0} (g : Ghosts K) (now : ℕ) where
 module _ {K : Type 0} (g : Ghosts K) where
   -- an event that is done at any moment is one turn there, if what it tells is told behind the rest
   pub goes_added_ever : {U : Type 0} (e : Event) (old new : Played K) (more : Option Telling) (before after : Telling) (r : Result U Over)
-      → ((limits : Limits) (u : Telling) (w v : World) → Happens limits e u w v → IsTurn limits e u w v) → ((now : ℕ) → Does g now e old more new)
+      → ((limits : Capacity) (u : Telling) (w v : World) → Happens limits e u w v → IsTurn limits e u w v) → ((now : ℕ) → Does g now e old more new)
       → OnOk r ((t : Telling) × (more ≡ Some t) × (after ≡ both_tell before t)) → OnOk r ((now : ℕ) → GoesOn g now (once e) old before after new)
   goes_added_ever {U} e old new more before after (Ok u) turns does told = λ now.
       let r : Result U Over = Ok u in

@@ -8,7 +8,7 @@ use Rattle.mqtt_broker.specs.engine.Serving.{Serving}
 use Rattle.mqtt_rules.specs.step.Contents.{IsTaken}
 use Rattle.mqtt_rules.specs.step.State.{Broker, MemberChoice}
 use Rattle.mqtt_rules.specs.step.Step.{Call, Input, deeds, is_step_spent, stepped, told}
-use Rattle.mqtt_rules.specs.declared.step.Limits.{Limits}
+use Rattle.mqtt_rules.specs.declared.step.Capacity.{Capacity}
 use Rattle.mqtt_world.specs.clients.Ends.{Ends, reading}
 use Rattle.mqtt_world.specs.script_laws.Scripted.{Happens, IsBadEvent, front_of, packet_of, IsRefused}
 use Rattle.mqtt_world.specs.script_laws.Turns.{IsPlain, IsQuiet, by_choice}
@@ -233,5 +233,5 @@ pub not_refused : {P : Type 0} (b : Bool) → b ≡ false → (P → b ≡ true)
 not_refused b h k x = true≢false (sym (k x) ∙ h)
 
 -- a setting of these limits, for what leaves no members to choose
-pub any_setting : Limits → Setting
+pub any_setting : Capacity → Setting
 any_setting limits = by_choice limits any_choice

@@ -23,7 +23,7 @@ use Rattle.mqtt_rules.specs.step.Piece.{Front, PieceStep, Pieced, begins_connect
 use Rattle.mqtt_rules.specs.step.State.{Broker, Env, Line, MemberChoice, line_at}
 use Rattle.mqtt_rules.specs.step.Step.{BadInput, Call, Input, at_moment, deeds, env_of, is_step_spent, nothing_told, on_fault, stepped, told, Outcome as Answer}
 use Rattle.mqtt_rules.specs.step.Deeds.{closing}
-use Rattle.mqtt_rules.specs.declared.step.Limits.{Limits}
+use Rattle.mqtt_rules.specs.declared.step.Capacity.{Capacity}
 use Rattle.mqtt_broker_step.specs.declared.call.EngineError.{EngineError}
 use Rattle.mqtt_broker.specs.engine.Serving.{Serving, has_closed, without_closed}
 use Rattle.mqtt_broker.specs.engine.Framers.{HeldLine, changed_at, framing_at, framing_of, in_framing, line_of}
@@ -83,7 +83,7 @@ fault_told env l false code None b = rw (nat_eq_equiv.refl l.number) refl
 fault_told env l true code (Some birth) b = rw (nat_eq_equiv.refl l.number) refl
 fault_told env l false code (Some birth) b = rw (nat_eq_equiv.refl l.number) refl
 
-fault_closed : (limits : Limits) (choice : MemberChoice) (now line : ℕ) (is_connect : Bool) (code : ℕ) (b : Broker) (l : Line) → line_at line b ≡ Some l
+fault_closed : (limits : Capacity) (choice : MemberChoice) (now line : ℕ) (is_connect : Bool) (code : ℕ) (b : Broker) (l : Line) → line_at line b ≡ Some l
     → has_closed (told limits choice now (BadInput line is_connect code) b).closed line ≡ true
 fault_closed limits choice now line is_connect code b l there =
     subst (λ (n : ℕ). has_closed (told limits choice now (BadInput line is_connect code) b).closed n ≡ true) (found_number line l b.lines there)
@@ -95,7 +95,7 @@ abbrev with_told : Broker → Ends → List (ℕ × Packet) → List (ℕ × Pac
 with_told b e wires outputs closed = ends_told b (record nothing_told { outputs = outputs; wires = wires; closed = closed }) e
 
 module _ {K : Type 0} (g : Ghosts K) (now line : ℕ) (call : Call) (piece : List ℕ) (old new : Played K) (out : Outcome) where
-  abbrev limits : Limits
+  abbrev limits : Capacity
   limits = old.engine.running.limits
 
   abbrev b : Broker

@@ -5,7 +5,7 @@ use Rattle.mqtt_keep.specs.declared.keeping.keep.Keep.{Ghosts}
 use Rattle.mqtt_keep.specs.declared.keeping.keep.KeepError.{KeepError}
 use Rattle.mqtt_keep.specs.declared.keeping.keep.KeepError.TheVariants as refusal
 use Rattle.mqtt_rules.specs.step.Step.{Call}
-use Rattle.mqtt_rules.specs.declared.step.Limits.{Limits}
+use Rattle.mqtt_rules.specs.declared.step.Capacity.{Capacity}
 use Rattle.mqtt_world_ends.specs.declared.peers.told.RunFault.{RunFault}
 use Rattle.mqtt_broker_step.specs.declared.call.EngineError.{EngineError}
 use Rattle.mqtt_broker_step.specs.declared.call.EngineError.TheVariants.{Memory, Stopped, Spent}
@@ -87,19 +87,19 @@ module _ {K : Type 0} (g : Ghosts K) where
 
   -- ---- an opening
 
-  refused_so : (limits : Limits) (now : ℕ) (keep : K) (e : K × KeepError) (result : Result (Serving K) (K × KeepError)) → result ≡ Err e
+  refused_so : (limits : Capacity) (now : ℕ) (keep : K) (e : K × KeepError) (result : Result (Serving K) (K × KeepError)) → result ≡ Err e
       → IfErr (running_in result) (λ x. IsRefused g limits now keep x.1 x.0) → IsRefused g limits now keep e.1 e.0
   refused_so limits now keep e result is refused =
       subst (λ (r : Result (Serving K) (K × KeepError)). IfErr (running_in r) (λ x. IsRefused g limits now keep x.1 x.0)) is refused
 
   -- if an opening is refused, but not for want of memory, there is a cause to answer Store
-  pub opening_due : (limits : Limits) (now : ℕ) (keep : K) (e : K × KeepError) (result : Result (Serving K) (K × KeepError)) → result ≡ Err e
+  pub opening_due : (limits : Capacity) (now : ℕ) (keep : K) (e : K × KeepError) (result : Result (Serving K) (K × KeepError)) → result ≡ Err e
       → IfErr (running_in result) (λ x. IsRefused g limits now keep x.1 x.0) → e.1 ≢ refusal.Memory → IsStoreDue g
   opening_due limits now keep e result is refused other =
       not_opened limits now keep
       (record { error = e.1; left = e.0; refused = refused_so limits now keep e result is refused; not_memory = other })
 
-  unbegun_by : (limits : Limits) (now : ℕ) (keep : K) (error : KeepError) (left : K) → IsRefused g limits now keep error left
+  unbegun_by : (limits : Capacity) (now : ℕ) (keep : K) (error : KeepError) (left : K) → IsRefused g limits now keep error left
       → IsUnbegun g limits now keep (over_for error)
   unbegun_by limits now keep refusal.Memory left refused = (left, refused)
   unbegun_by limits now keep refusal.Disk left refused =
@@ -112,7 +112,7 @@ module _ {K : Type 0} (g : Ghosts K) where
       record { error = refusal.Schema; left = left; refused = refused; not_memory = λ (is : refusal.Schema ≡ refusal.Memory). absurd (cc) }
 
   -- the opening was refused
-  pub unbegun : (limits : Limits) (now moment : ℕ) (keep : K) (e : K × KeepError) (o : Over) (result : Result (Serving K) (K × KeepError))
+  pub unbegun : (limits : Capacity) (now moment : ℕ) (keep : K) (e : K × KeepError) (o : Over) (result : Result (Serving K) (K × KeepError))
       → moment ≡ now → result ≡ Err e → IfErr (running_in result) (λ x. IsRefused g limits moment keep x.1 x.0) → o ≡ over_for e.1
       → IsUnbegun g limits now keep o
   unbegun limits now moment keep e o result at is refused is_for =
@@ -122,12 +122,12 @@ module _ {K : Type 0} (g : Ghosts K) where
 
   -- ---- what is answered
 
-  no_start_by : (limits : Limits) (now : ℕ) (keep : K) (o : Over) → IsUnbegun g limits now keep o → IsNoStart g limits now keep (fault_of o)
+  no_start_by : (limits : Capacity) (now : ℕ) (keep : K) (o : Over) → IsUnbegun g limits now keep o → IsNoStart g limits now keep (fault_of o)
   no_start_by limits now keep over.Memory unbegun = unbegun
   no_start_by limits now keep over.Store unbegun = unbegun
 
   -- if the opening was refused, what is answered has the cause of that
-  pub no_start : (limits : Limits) (now moment : ℕ) (keep : K) (o : Over) (f : RunFault) → moment ≡ now → IsUnbegun g limits moment keep o → f ≡ fault_of o
+  pub no_start : (limits : Capacity) (now moment : ℕ) (keep : K) (o : Over) (f : RunFault) → moment ≡ now → IsUnbegun g limits moment keep o → f ≡ fault_of o
       → IsNoStart g limits now keep f
   no_start limits now moment keep o f at unbegun is =
       subst (IsNoStart g limits now keep) (sym is)

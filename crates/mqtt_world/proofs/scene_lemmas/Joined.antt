@@ -4,6 +4,7 @@ use Rattle.mqtt_keep.specs.declared.keeping.keep.Keep.{Ghosts}
 use Rattle.mqtt_world_model.specs.model.Tellings.{Telling, silent}
 use Rattle.mqtt_world_model.specs.model.World.{Stranger, connect_end, is_bad, links, next_line}
 use Rattle.mqtt_broker.specs.engine.Serving.{Serving}
+use Rattle.mqtt_rules.specs.declared.step.Capacity.{Capacity}
 use Rattle.mqtt_rules.specs.step.State.{Broker}
 use Rattle.mqtt_rules.specs.step.Step.{NewLine, can_link}
 use Rattle.mqtt_world.specs.clients.Ends.{Become, Ends, joins}
@@ -18,14 +19,14 @@ use Rattle.mqtt_world.proofs.scene_lemmas.Eventful.{any_setting, playable_still,
 -- ---- whether there is a line for it
 
 -- if none may be linked there is no next one
-pub none_next : (b : Broker) → can_link b ≡ false → next_line b ≡ None
-none_next b is = ap (λ (free : Bool). cond free (Some (suc b.given)) None) is
+pub none_next : (limits : Capacity) (b : Broker) → can_link limits b ≡ false → next_line limits b ≡ None
+none_next limits b is = ap (λ (free : Bool). cond free (Some (suc b.given)) None) is
 
 -- and if one may there is, as a scene is seen
-pub next_there : {K : Type 0} (E : Serving K) (O : Ends) (s : Played K) → played E O ≡ s → can_link E.running.broker ≡ true
-    → next_line s.engine.running.broker ≡ Some (suc E.running.broker.given)
+pub next_there : {K : Type 0} (E : Serving K) (O : Ends) (s : Played K) → played E O ≡ s → can_link E.running.limits E.running.broker ≡ true
+    → next_line s.engine.running.limits s.engine.running.broker ≡ Some (suc E.running.broker.given)
 next_there E O s view is =
-    ap (λ (x : Played _). next_line x.engine.running.broker) (sym view)
+    ap (λ (x : Played _). next_line x.engine.running.limits x.engine.running.broker) (sym view)
     ∙ ap (λ (free : Bool). cond free (Some (suc E.running.broker.given)) None) is
 
 -- ---- what it does
@@ -36,7 +37,7 @@ module _ {K : Type 0} (g : Ghosts K) (now : ℕ) (client : List ℕ) (clean : Bo
 
   -- if there is a line for it
   pub joined : (F : Serving K) (P N : Ends) (f : Played K) (line : ℕ) → t ≡ silent → played E O ≡ s → played F P ≡ f → is_good
-      → Some line ≡ next_line s.engine.running.broker → Calls g now NewLine s silent f → Become (joins line client clean) P N
+      → Some line ≡ next_line s.engine.running.limits s.engine.running.broker → Calls g now NewLine s silent f → Become (joins line client clean) P N
       → Does g now (connect_end client clean) s (Some t) (played F N)
   joined F P N f line told before after good next linked become =
       let c : Calls g now NewLine s silent (played F P) = subst (λ (x : Played K). Calls g now NewLine s silent x) (sym after) linked in
@@ -60,7 +61,7 @@ module _ {K : Type 0} (g : Ghosts K) (now : ℕ) (client : List ℕ) (clean : Bo
       }
 
   -- if there is none
-  pub left_alone : t ≡ silent → played E O ≡ s → IsPlayable g s → is_good → next_line E.running.broker ≡ None
+  pub left_alone : t ≡ silent → played E O ≡ s → IsPlayable g s → is_good → next_line E.running.limits E.running.broker ≡ None
       → Does g now (connect_end client clean) s (Some t) s
   left_alone told before playable good none = record {
     playable = playable;
@@ -72,7 +73,7 @@ module _ {K : Type 0} (g : Ghosts K) (now : ℕ) (client : List ℕ) (clean : Bo
         let choice = (any_setting limits).choice in
         let set = by_choice limits choice in
         let w = world_of now ss s in
-        let next : next_line s.engine.running.broker ≡ None = ap (λ (x : Played K). next_line x.engine.running.broker) (sym before) ∙ none in
+        let next : next_line s.engine.running.limits s.engine.running.broker ≡ None = ap (λ (x : Played K). next_line x.engine.running.limits x.engine.running.broker) (sym before) ∙ none in
         subst (λ (x : Telling). Happens limits (connect_end client clean) x w w) (sym told)
         (single.joins limits choice client clean w w
         (ap (λ (x : Played K). is_bad (connect_end client clean) (world_of now ss x)) (sym before) ∙ good ss)

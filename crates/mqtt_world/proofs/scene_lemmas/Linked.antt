@@ -8,7 +8,7 @@ use Rattle.mqtt_world_model.specs.model.Tellings.{silent}
 use Rattle.mqtt_world_model.specs.model.World.{publisher_told, receiver_told}
 use Rattle.mqtt_rules.specs.step.State.{Broker, MemberChoice}
 use Rattle.mqtt_rules.specs.step.Step.{BrokerStep, NewLine, at_moment, can_link, nothing_told, stepped, told, Outcome as Answer}
-use Rattle.mqtt_rules.specs.declared.step.Limits.{Limits}
+use Rattle.mqtt_rules.specs.declared.step.Capacity.{Capacity}
 use Rattle.mqtt_broker.specs.engine.Serving.{Serving, with_linked}
 use Rattle.mqtt_broker.specs.engine.Framers.{HeldLine, begun}
 use Rattle.mqtt_world.specs.clients.Ends.{Ends}
@@ -52,10 +52,10 @@ ends_untold b e =
 -- ---- the store
 
 -- a new line changes nothing that is stored
-pub linked_records : (limits : Limits) (choice : MemberChoice) (now : ℕ) (b : Broker) → (stepped limits choice now NewLine b).records ≡ b.records
-linked_records limits choice now b = by (can_link (at_moment now b)) refl
+pub linked_records : (limits : Capacity) (choice : MemberChoice) (now : ℕ) (b : Broker) → (stepped limits choice now NewLine b).records ≡ b.records
+linked_records limits choice now b = by (can_link limits (at_moment now b)) refl
   where
-    by : (t : Bool) → can_link (at_moment now b) ≡ t → (stepped limits choice now NewLine b).records ≡ b.records
+    by : (t : Bool) → can_link limits (at_moment now b) ≡ t → (stepped limits choice now NewLine b).records ≡ b.records
     by true e = rw e refl
     by false e = rw e refl
 

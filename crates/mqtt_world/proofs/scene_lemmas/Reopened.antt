@@ -11,7 +11,7 @@ use Rattle.mqtt_broker.specs.engine.Opening.{running_in}
 use Rattle.mqtt_broker.specs.engine.Serving.{Serving}
 use Rattle.mqtt_rules.specs.step.State.{Broker, MemberChoice, capped}
 use Rattle.mqtt_rules.specs.step.Step.{done, env_of, is_opening_spent, is_spent, opened, opening, rows_written, unopened}
-use Rattle.mqtt_rules.specs.declared.step.Limits.{Limits}
+use Rattle.mqtt_rules.specs.declared.step.Capacity.{Capacity}
 use Rattle.mqtt_world.specs.clients.Ends.{Ends}
 use Rattle.mqtt_world.specs.scene.Openings.{Begins, Opens, Reopens, ends_restarted, no_ends}
 use Rattle.mqtt_world.specs.scene.Scenes.{HoldNone, IsPlayable, Played}
@@ -23,19 +23,19 @@ unopened_capped : (now : ℕ) (r : Records) → unopened (min now LAST_NUMBER) r
 unopened_capped now r =
     ap (λ (n : ℕ). record (unopened now r) { now = max (capped r.moment) n }) (min_twice now LAST_NUMBER)
 
-opened_capped : (limits : Limits) (choice : MemberChoice) (now : ℕ) (r : Records)
+opened_capped : (limits : Capacity) (choice : MemberChoice) (now : ℕ) (r : Records)
     → opened limits choice (min now LAST_NUMBER) r ≡ opened limits choice now r
 opened_capped limits choice now r =
     ap (λ (b : Broker). done (opening (env_of limits choice b) b) b) (unopened_capped now r)
 
-spent_capped : (limits : Limits) (choice : MemberChoice) (now : ℕ) (r : Records)
+spent_capped : (limits : Capacity) (choice : MemberChoice) (now : ℕ) (r : Records)
     → is_opening_spent limits choice (min now LAST_NUMBER) r ≡ is_opening_spent limits choice now r
 spent_capped limits choice now r =
     ap (λ (b : Broker). is_spent (rows_written (opening (env_of limits choice b) b) b)) (unopened_capped now r)
 
 -- ---- an opening
 
-opens : {K : Type 0} (g : Ghosts K) (limits : Limits) (now : ℕ) (keep : K) (s : Played K)
+opens : {K : Type 0} (g : Ghosts K) (limits : Capacity) (now : ℕ) (keep : K) (s : Played K)
     → (o : IsOpened g limits (min now LAST_NUMBER) keep s.engine.running) → s.engine.held ≡ [] → Opens g limits now o.records s
 opens g limits now keep s o none =
     let choice = o.opening.choice in
@@ -47,7 +47,7 @@ opens g limits now keep s o none =
       playable = record { runs = o.runs; stored = o.holds; clear = subst HoldNone (sym none) tt };
     }
 
-at_moment_of : {K E : Type 0} (g : Ghosts K) (limits : Limits) (now moment : ℕ) (keep : K) (engine : Serving K)
+at_moment_of : {K E : Type 0} (g : Ghosts K) (limits : Capacity) (now moment : ℕ) (keep : K) (engine : Serving K)
     (result : Result (Serving K) E) → moment ≡ min now LAST_NUMBER → result ≡ Ok engine
     → IfOk (running_in result) (λ running. IsOpened g limits moment keep running)
     → IsOpened g limits (min now LAST_NUMBER) keep engine.running
@@ -60,7 +60,7 @@ none_held : {K E : Type 0} (engine : Serving K) (result : Result (Serving K) E) 
 none_held {K} {E} engine result is held = subst (λ (x : Result (Serving K) E). IfOk x (λ e. e.held ≡ [])) is held
 
 -- the first time
-pub begins : {K E : Type 0} (g : Ghosts K) (limits : Limits) (now moment : ℕ) (keep : K) (engine : Serving K) (ends : Ends)
+pub begins : {K E : Type 0} (g : Ghosts K) (limits : Capacity) (now moment : ℕ) (keep : K) (engine : Serving K) (ends : Ends)
     (result : Result (Serving K) E) → moment ≡ min now LAST_NUMBER → result ≡ Ok engine
     → IfOk (running_in result) (λ running. IsOpened g limits moment keep running)
     → IfOk result (λ e. e.held ≡ []) → ends ≡ no_ends
@@ -80,7 +80,7 @@ begins g limits now moment keep engine ends result moment_is is begun held none 
     }
 
 -- and again
-pub reopens : {K E : Type 0} (g : Ghosts K) (limits : Limits) (now moment : ℕ) (old : Played K) (before engine : Serving K) (was ends : Ends)
+pub reopens : {K E : Type 0} (g : Ghosts K) (limits : Capacity) (now moment : ℕ) (old : Played K) (before engine : Serving K) (was ends : Ends)
     (keep : K) (result : Result (Serving K) E) → old ≡ record { engine = before; ends = was } → IsPlayable g old
     → keep ≡ before.running.keep → moment ≡ min now LAST_NUMBER → result ≡ Ok engine
     → IfOk (running_in result) (λ running. IsOpened g limits moment keep running)

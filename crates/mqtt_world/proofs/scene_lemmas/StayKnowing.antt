@@ -1,7 +1,7 @@
 -- After what happens in a script its ends know what they were told (MQTT 5.0, 3.3.2.3.4).
 use Rattle.std.specs.Prelude.{◌≡◌, ℕ, zero, suc, List, [], ◌∷◌}
 use Rattle.std.proofs.Common.{subst, sym}
-use Rattle.mqtt_rules.specs.declared.step.Limits.{Limits}
+use Rattle.mqtt_rules.specs.declared.step.Capacity.{Capacity}
 use Rattle.mqtt_script.specs.declared.event.Event.{Event as ScriptEvent}
 use Rattle.mqtt_world.specs.script_laws.Drains.{IsRound, MakesRounds, Repeats}
 use Rattle.mqtt_world.specs.script_laws.Scripted.{Passes, RunsTo, as_drain, as_event}
@@ -12,7 +12,7 @@ use Rattle.mqtt_world_laws.specs.receiver.Drains.{downs_by, ups_by}
 use Rattle.mqtt_world_laws.specs.knowing.Knowing.{HasKnowingEnds}
 use Rattle.mqtt_world_laws.proofs.knowing_lemmas.Worlds.{happens_knowing, run_knowing}
 
-module _ (limits : Limits) where
+module _ (limits : Capacity) where
   -- a turn does
   pub turn_knowing : (e : Event) (t : Telling) (w after : World) → IsTurn limits e t w after → HasKnowingEnds w → HasKnowingEnds after
   turn_knowing e t w after x h = subst HasKnowingEnds (sym x.is) (happens_knowing (by_choice limits x.choice) e w x.good h)

@@ -9,7 +9,7 @@ use Rattle.mqtt_world_laws.proofs.headline_lemmas.Lives.{start_begins}
 use Rattle.mqtt_world.proofs.script_laws_lemmas.Scripts.{runs_by_turns}
 use Rattle.mqtt_rules.specs.step.Laws.{AreWithin}
 use Rattle.mqtt_rules.specs.step.State.{MemberChoice}
-use Rattle.mqtt_rules.specs.declared.step.Limits.{Limits}
+use Rattle.mqtt_rules.specs.declared.step.Capacity.{Capacity}
 use Rattle.mqtt_script.specs.declared.event.Event.{Event}
 use Rattle.std.specs.List.{AllByRecursion}
 use Rattle.mqtt_world_laws.proofs.acceptance_lemmas.copies.Walks.{counted}
@@ -55,7 +55,7 @@ all_fit : (client : List ℕ) (moment : ℕ) (xs : List EndAt) → AllByRecursio
 all_fit client moment [] h = tt
 all_fit client moment (x ∷ xs) h = (h.0.fits, all_fit client moment xs h.1)
 
-module _ (limits : Limits) (client : List ℕ) (choice : MemberChoice) where
+module _ (limits : Capacity) (client : List ℕ) (choice : MemberChoice) where
   -- once a drain is over, more rounds come to the same
   over_stays : (rounds more : ℕ) (w : World) → is_over client (drained limits choice client rounds w) ≡ true → rounds ≤ more → drained limits choice client more w ≡ drained limits choice client rounds w
   over_stays zero zero w over le = refl
@@ -79,12 +79,12 @@ module _ (limits : Limits) (client : List ℕ) (choice : MemberChoice) where
           goes more ∙ (stays (sym (ap (is_over client) (goes rounds)) ∙ over) ∙ sym (goes rounds))
 
 -- after the turns of a drain it is over
-over_after : (limits : Limits) (client : List ℕ) (rounds : ℕ) (turns : List Turn) (w : World) → AreTurnsOfRounds limits client rounds turns w → is_over client (run limits turns w) ≡ true
+over_after : (limits : Capacity) (client : List ℕ) (rounds : ℕ) (turns : List Turn) (w : World) → AreTurnsOfRounds limits client rounds turns w → is_over client (run limits turns w) ≡ true
 over_after limits client zero turns w h = ap (λ (ts : List Turn). is_over client (run limits ts w)) h.1 ∙ h.0
 over_after limits client (suc more) turns w (on, first, rest, front, others, are) =
     ap (λ (ts : List Turn). is_over client (run limits ts w)) are ∙ (ap (is_over client) (run_append limits first rest w) ∙ over_after limits client more rest (run limits first w) others)
 
-module _ (limits : Limits) (es : List Event) (client : List ℕ) (w v : World) (untouched : IsUntouched limits w) (comes : ComesFairly limits es w v) where
+module _ (limits : Capacity) (es : List Event) (client : List ℕ) (w v : World) (untouched : IsUntouched limits w) (comes : ComesFairly limits es w v) where
   -- so many rounds are enough, by this choice
   abbrev enough : MemberChoice → ℕ
   enough choice = enough_rounds (copies_to_take limits choice client v)
@@ -197,7 +197,7 @@ module _ (limits : Limits) (es : List Event) (client : List ℕ) (w v : World) (
 -- ---- a script
 
 -- a script that begins well delivers exactly once
-pub delivers_once : (limits : Limits) (es : List Event) (tells : List Telling) (w after : World) → BeginsWell limits w → RunsTo limits es tells w after → ScriptDelivers limits es w after
+pub delivers_once : (limits : Capacity) (es : List Event) (tells : List Telling) (w after : World) → BeginsWell limits w → RunsTo limits es tells w after → ScriptDelivers limits es w after
 delivers_once limits es tells w after begins runs = record {
   is_run = runs_by_turns limits es tells w after runs;
   all = λ turns are fair. run_delivers_all limits turns w begins fair;
@@ -207,5 +207,5 @@ delivers_once limits es tells w after begins runs = record {
 }
 
 -- so does each script from nothing
-pub start_delivers : (limits : Limits) (es : List Event) (tells : List Telling) (after : World) → AreWithin limits → RunsTo limits es tells start after → ScriptDelivers limits es start after
+pub start_delivers : (limits : Capacity) (es : List Event) (tells : List Telling) (after : World) → AreWithin limits → RunsTo limits es tells start after → ScriptDelivers limits es start after
 start_delivers limits es tells after within runs = delivers_once limits es tells start after (start_begins limits within) runs

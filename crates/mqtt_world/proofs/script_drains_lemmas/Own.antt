@@ -7,7 +7,7 @@ use Rattle.mqtt_rules.proofs.step_lemmas.numbers.Copies.{each_append}
 use Rattle.mqtt_rules.specs.step.Deeds.{At, Deed, Leave, after}
 use Rattle.mqtt_rules.specs.step.State.{Broker, MemberChoice}
 use Rattle.mqtt_rules.specs.step.Step.{Call, at_moment, deeds}
-use Rattle.mqtt_rules.specs.declared.step.Limits.{Limits}
+use Rattle.mqtt_rules.specs.declared.step.Capacity.{Capacity}
 use Rattle.mqtt_world_model.specs.model.Run.{Turn, are_beginnings_clean, begins_clean, deeds_over, read_if, read_in, run, the_deeds}
 use Rattle.mqtt_world_model.specs.model.Tellings.{telling}
 use Rattle.mqtt_world_model.specs.model.World.{Event, World, ask, happens, input_on, is_bad, pump, pump_on, receiver_named, taken_up, to_broker, to_end, view_of, with_line}
@@ -42,7 +42,7 @@ pub record IsHis (client : List ℕ) (moment : ℕ) (x : EndAt) : Type 0 where
   pub at : x.broker.now ≡ moment
   pub fits : IsNotTooLarge x
 
-module _ (limits : Limits) (client : List ℕ) (moment : ℕ) where
+module _ (limits : Capacity) (client : List ℕ) (moment : ℕ) where
   abbrev AreHis : List EndAt → Type 0
   AreHis xs = AllByRecursion (IsHis client moment) xs
 

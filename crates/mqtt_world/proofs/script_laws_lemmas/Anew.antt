@@ -3,7 +3,7 @@ use Rattle.std.proofs.Common.{◌≡◌, Bool, true, false, cond, not, ◌&&◌,
 use Rattle.std.proofs.lemmas.Bool.{cases_Bool}
 use Rattle.mqtt_rules.proofs.step_lemmas.numbers.Copies.{each_more}
 use Rattle.mqtt_rules.specs.step.State.{Broker, session_named}
-use Rattle.mqtt_rules.specs.declared.step.Limits.{Limits}
+use Rattle.mqtt_rules.specs.declared.step.Capacity.{Capacity}
 use Rattle.mqtt_world_model.specs.model.Run.{Turn, run, setting, turned}
 use Rattle.mqtt_world_model.specs.model.World.{Event, World, ask, clock, connect_end, give_up, happens, is_bad, publish, publisher, receiver, restart, start}
 use Rattle.mqtt_world_model.specs.model.World.{stop_after, stop_before, subscribe, to_end}
@@ -25,7 +25,7 @@ no_end (Some (publisher client)) w h = absurd cc
 no_end (Some (receiver client window aliases)) w h = absurd cc
 no_end (Some e) w h = tt
 
-none_made : (limits : Limits) (es : List Line) (w : World) → makes_no_end es ≡ true → AreMadeAnew limits es w
+none_made : (limits : Capacity) (es : List Line) (w : World) → makes_no_end es ≡ true → AreMadeAnew limits es w
 none_made limits [] w h = tt
 none_made limits (e ∷ es) w h =
     let both = both_true (not (makes_end (event_of e))) (makes_no_end es) h in
@@ -41,7 +41,7 @@ still : (b : Bool) (w v : World) → v.broker ≡ w.broker → (cond b w v).brok
 still true w v is = refl
 still false w v is = is
 
-broker_stays : (limits : Limits) (x : Event) (t : Turn) (w : World) → makes_end (Some x) ≡ true → t.event ≡ x → (turned limits t w).broker ≡ w.broker
+broker_stays : (limits : Capacity) (x : Event) (t : Turn) (w : World) → makes_end (Some x) ≡ true → t.event ≡ x → (turned limits t w).broker ≡ w.broker
 broker_stays limits (publisher client) t w makes is =
     let set = setting limits t in
     ap (λ (e : Event). (cond (is_bad e w) w (happens set e w)).broker) is
@@ -62,7 +62,7 @@ broker_stays limits (stop_before a) t w makes is = absurd cc
 broker_stays limits (stop_after a) t w makes is = absurd cc
 
 -- its event comes to one turn
-one_stays : (limits : Limits) (x : Event) (turns : List Turn) (w : World) → makes_end (Some x) ≡ true → events_of turns ≡ x ∷ [] → (run limits turns w).broker ≡ w.broker
+one_stays : (limits : Capacity) (x : Event) (turns : List Turn) (w : World) → makes_end (Some x) ≡ true → events_of turns ≡ x ∷ [] → (run limits turns w).broker ≡ w.broker
 one_stays limits x [] w makes are = absurd cc
 one_stays limits x (t ∷ u ∷ more) w makes are = absurd cc
 one_stays limits x (t ∷ []) w makes are = let same : t.event ≡ x = cc in broker_stays limits x t w makes same
@@ -81,7 +81,7 @@ alone restart w es makes is = absurd cc
 alone (stop_before a) w es makes is = absurd cc
 alone (stop_after a) w es makes is = absurd cc
 
-made_stays : (limits : Limits) (e : Line) (turns : List Turn) (w : World) → makes_end (event_of e) ≡ true → AreTurnsFor limits e turns w → (run limits turns w).broker ≡ w.broker
+made_stays : (limits : Capacity) (e : Line) (turns : List Turn) (w : World) → makes_end (event_of e) ≡ true → AreTurnsFor limits e turns w → (run limits turns w).broker ≡ w.broker
 made_stays limits e turns w makes (of_event x at good unrolls) =
     let its : makes_end (Some x) ≡ true = sym (ap makes_end at) ∙ makes in
     one_stays limits x turns w its (alone x w (events_of turns) its unrolls)
@@ -98,7 +98,7 @@ by_broker (Some (receiver client window aliases)) w v same h = ap (λ (b : Broke
 by_broker (Some e) w v same h = tt
 
 -- a script that makes its ends first, over records without sessions of theirs, makes each anew
-pub made_first : (limits : Limits) (es : List Line) (w : World) → makes_ends_first es ≡ true → HaveNoSession es w → AreMadeAnew limits es w
+pub made_first : (limits : Capacity) (es : List Line) (w : World) → makes_ends_first es ≡ true → HaveNoSession es w → AreMadeAnew limits es w
 made_first limits [] w h none = tt
 made_first limits (e ∷ es) w h none = elim (cases_Bool (makes_end (event_of e))) [
   | inl makes ↦
@@ -127,5 +127,5 @@ none_stored [] = tt
 none_stored (e ∷ es) = (no_sessions (event_of e), none_stored es)
 
 -- a script that makes its ends first, from nothing, makes each anew
-pub made_from_nothing : (limits : Limits) (es : List Line) → makes_ends_first es ≡ true → AreMadeAnew limits es start
+pub made_from_nothing : (limits : Capacity) (es : List Line) → makes_ends_first es ≡ true → AreMadeAnew limits es start
 made_from_nothing limits es h = made_first limits es start h (none_stored es)

@@ -3,7 +3,7 @@ use Rattle.std.proofs.Common.{◌≡◌, ℕ, zero, suc, Bool, true, false, not,
 use Rattle.std.specs.Prelude.{⊤, is_none}
 use Rattle.std.specs.List.{AllByRecursion}
 use Rattle.mqtt_rules.specs.step.Laws.{AreWithin}
-use Rattle.mqtt_rules.specs.declared.step.Limits.{Limits}
+use Rattle.mqtt_rules.specs.declared.step.Capacity.{Capacity}
 use Rattle.mqtt_world_model.specs.model.Ends.{Publisher, Receiver}
 use Rattle.mqtt_world_model.specs.model.Run.{Turn, are_beginnings_clean, begins_clean, is_asked, run, setting, turned, waits_clean}
 use Rattle.mqtt_world_model.specs.model.Tellings.{Telling}
@@ -77,7 +77,7 @@ nobody_first : (es : List Event) (w : World) → AllByRecursion MakesNobody es �
 nobody_first [] w h = tt
 nobody_first (e ∷ es) w h = (h.0 w, h.1)
 
-turns_carry : (limits : Limits) (ts : List Turn) (names : List (List ℕ)) (w : World) → Known names w → carries_over names (events_of ts) ≡ true → MakesFirst (events_of ts) w
+turns_carry : (limits : Capacity) (ts : List Turn) (names : List (List ℕ)) (w : World) → Known names w → carries_over names (events_of ts) ≡ true → MakesFirst (events_of ts) w
     → (are_beginnings_clean limits ts w ≡ true) × Known (names_over (events_of ts) names) (run limits ts w)
 turns_carry limits [] names w known keeps made = (refl, known)
 turns_carry limits (t ∷ ts) names w known keeps made =
@@ -86,7 +86,7 @@ turns_carry limits (t ∷ ts) names w known keeps made =
     (and_true (begins_clean t.event w) (are_beginnings_clean limits ts (turned limits t w)) (event_carries t.event names w known both.0 made.0) rest.0, rest.1)
 
 -- two runs of clean beginnings, one behind the other, are one
-pub carry_joined : (limits : Limits) (xs ys : List Turn) (w : World) → are_beginnings_clean limits xs w ≡ true → are_beginnings_clean limits ys (run limits xs w) ≡ true
+pub carry_joined : (limits : Capacity) (xs ys : List Turn) (w : World) → are_beginnings_clean limits xs w ≡ true → are_beginnings_clean limits ys (run limits xs w) ≡ true
     → are_beginnings_clean limits (xs ++ ys) w ≡ true
 carry_joined limits [] ys w h k = k
 carry_joined limits (t ∷ xs) ys w h k =
@@ -170,14 +170,14 @@ both_named : (xs ys : List Turn) → AllByRecursion NamesNobody (events_of xs) �
 both_named [] ys h k = k
 both_named (t ∷ xs) ys h k = (h.0, both_named xs ys h.1 k)
 
-round_named : (limits : Limits) (client : List ℕ) (turns : List Turn) (w : World) → AreTurnsOfRound limits client turns w → AllByRecursion NamesNobody (events_of turns)
+round_named : (limits : Capacity) (client : List ℕ) (turns : List Turn) (w : World) → AreTurnsOfRound limits client turns w → AllByRecursion NamesNobody (events_of turns)
 round_named limits client turns w x =
     let sends : AllByRecursion NamesNobody (events_of x.sends) = subst (AllByRecursion NamesNobody) (sym x.sends_are) (((λ names. (refl, refl)), λ w. tt), tt) in
     let reads : AllByRecursion NamesNobody (events_of x.reads) = subst (AllByRecursion NamesNobody) (sym x.reads_are) (so_many _ (to_end client) ((λ names. (refl, refl)), λ w. tt)) in
     let answers : AllByRecursion NamesNobody (events_of x.answers) = subst (AllByRecursion NamesNobody) (sym x.answers_are) (so_many _ (ask (to_broker client)) ((λ names. (refl, refl)), λ w. tt)) in
     subst (λ (ts : List Turn). AllByRecursion NamesNobody (events_of ts)) (sym x.are) (both_named (x.sends ++ x.reads) x.answers (both_named x.sends x.reads sends reads) answers)
 
-rounds_named : (limits : Limits) (client : List ℕ) (rounds : ℕ) (turns : List Turn) (w : World) → AreTurnsOfRounds limits client rounds turns w → AllByRecursion NamesNobody (events_of turns)
+rounds_named : (limits : Capacity) (client : List ℕ) (rounds : ℕ) (turns : List Turn) (w : World) → AreTurnsOfRounds limits client rounds turns w → AllByRecursion NamesNobody (events_of turns)
 rounds_named limits client zero turns w h = subst (λ (ts : List Turn). AllByRecursion NamesNobody (events_of ts)) (sym h.1) tt
 rounds_named limits client (suc rounds) turns w (on, first, rest, front, others, are) =
     subst (λ (ts : List Turn). AllByRecursion NamesNobody (events_of ts)) (sym are)
@@ -185,12 +185,12 @@ rounds_named limits client (suc rounds) turns w (on, first, rest, front, others,
 
 -- ---- the turns of an event
 
-record Carries (limits : Limits) (e : Line) (es : List Line) (names : List (List ℕ)) (first : List Turn) (w : World) : Type 0 where
+record Carries (limits : Capacity) (e : Line) (es : List Line) (names : List (List ℕ)) (first : List Turn) (w : World) : Type 0 where
   carried : are_beginnings_clean limits first w ≡ true
   known : Known (named_if (event_of e) names) (run limits first w)
   keeps : keep_clean_starts (named_if (event_of e) names) es ≡ true
 
-first_carries : (limits : Limits) (e : Line) (es : List Line) (names : List (List ℕ)) (first : List Turn) (w : World) → Known names w → keep_clean_starts names (e ∷ es) ≡ true → IsMadeAnewIf (event_of e) w → AreTurnsFor limits e first w → Carries limits e es names first w
+first_carries : (limits : Capacity) (e : Line) (es : List Line) (names : List (List ℕ)) (first : List Turn) (w : World) → Known names w → keep_clean_starts names (e ∷ es) ≡ true → IsMadeAnewIf (event_of e) w → AreTurnsFor limits e first w → Carries limits e es names first w
 first_carries limits e es names first w known keeps made (of_event x at good unrolls) =
     let kept = subst (λ (o : Option Event). (keeps_if names o && keep_clean_starts (named_if o names) es) ≡ true) at keeps in
     let both = both_true (keeps_clean names x) (keep_clean_starts (named_after x names) es) kept in
@@ -214,7 +214,7 @@ first_carries limits e es names first w known keeps made (of_drain client at dra
 
 -- ---- a script
 
-script_carries : (limits : Limits) (es : List Line) (names : List (List ℕ)) (turns : List Turn) (w : World) → Known names w → keep_clean_starts names es ≡ true → AreMadeAnew limits es w
+script_carries : (limits : Capacity) (es : List Line) (names : List (List ℕ)) (turns : List Turn) (w : World) → Known names w → keep_clean_starts names es ≡ true → AreMadeAnew limits es w
     → AreTurnsOf limits es turns w → are_beginnings_clean limits turns w ≡ true
 script_carries limits [] names turns w known keeps made are = ap (λ (ts : List Turn). are_beginnings_clean limits ts w) are
 script_carries limits (e ∷ es) names turns w known keeps made (first, rest, are, joined, more) =
@@ -229,14 +229,14 @@ nobody_known names w none nobody = record {
 }
 
 -- whatever turns its events come to, that spend no number, they are as is asked of every run
-pub turns_fair : (limits : Limits) (es : List Line) (turns : List Turn) (w : World) → AreWithin limits → IsUntouched limits w → BeginClean limits es w
+pub turns_fair : (limits : Capacity) (es : List Line) (turns : List Turn) (w : World) → AreWithin limits → IsUntouched limits w → BeginClean limits es w
     → AreTurnsOf limits es turns w → run_spends limits turns w ≡ false → IsFair limits turns w
 turns_fair limits es turns w within untouched clean are unspent =
     let known = nobody_known [] w untouched.new.publishers untouched.new.receivers in
     record { within = within; unspent = unspent; clean = script_carries limits es [] turns w known clean.starts clean.made are }
 
 -- so it comes fairly to where it comes
-pub script_fair : (limits : Limits) (es : List Line) (tells : List Telling) (w after : World) → AreWithin limits → IsUntouched limits w → BeginClean limits es w → RunsTo limits es tells w after
+pub script_fair : (limits : Capacity) (es : List Line) (tells : List Telling) (w after : World) → AreWithin limits → IsUntouched limits w → BeginClean limits es w → RunsTo limits es tells w after
     → ComesFairly limits es w after
 script_fair limits es tells w after within untouched clean runs =
     let by : IsRunOf limits es w after = runs_by_turns limits es tells w after runs in
@@ -244,23 +244,23 @@ script_fair limits es tells w after within untouched clean runs =
 
 -- ---- strangers
 
-run_alike : (limits : Limits) (ts : List Turn) (w : World) → AreAllAlike w → AreAllAlike (run limits ts w)
+run_alike : (limits : Capacity) (ts : List Turn) (w : World) → AreAllAlike w → AreAllAlike (run limits ts w)
 run_alike limits [] w alike = alike
 run_alike limits (t ∷ ts) w alike = run_alike limits ts (turned limits t w) (step_alike (setting limits t) t.event w alike)
 
-run_waits : (limits : Limits) (ts : List Turn) (w : World) → AreAllAlike w → HoldNoPacket w → HoldNoPacket (run limits ts w)
+run_waits : (limits : Capacity) (ts : List Turn) (w : World) → AreAllAlike w → HoldNoPacket w → HoldNoPacket (run limits ts w)
 run_waits limits [] w alike waits = waits
 run_waits limits (t ∷ ts) w alike waits =
     run_waits limits ts (turned limits t w) (step_alike (setting limits t) t.event w alike) (step_waits (setting limits t) t.event w alike waits)
 
 -- a script leaves strangers of one name holding the same
-pub script_alike : (limits : Limits) (es : List Line) (tells : List Telling) (w after : World) → RunsTo limits es tells w after → AreAllAlike w → AreAllAlike after
+pub script_alike : (limits : Capacity) (es : List Line) (tells : List Telling) (w after : World) → RunsTo limits es tells w after → AreAllAlike w → AreAllAlike after
 script_alike limits es tells w after runs alike =
     let by : IsRunOf limits es w after = runs_by_turns limits es tells w after runs in
     subst AreAllAlike (sym by.is) (run_alike limits by.turns w alike)
 
 -- and none with a whole packet
-pub script_waits : (limits : Limits) (es : List Line) (tells : List Telling) (w after : World) → RunsTo limits es tells w after → AreAllAlike w → HoldNoPacket w → HoldNoPacket after
+pub script_waits : (limits : Capacity) (es : List Line) (tells : List Telling) (w after : World) → RunsTo limits es tells w after → AreAllAlike w → HoldNoPacket w → HoldNoPacket after
 script_waits limits es tells w after runs alike waits =
     let by : IsRunOf limits es w after = runs_by_turns limits es tells w after runs in
     subst HoldNoPacket (sym by.is) (run_waits limits by.turns w alike waits)

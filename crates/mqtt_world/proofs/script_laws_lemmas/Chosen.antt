@@ -37,7 +37,7 @@ use Rattle.mqtt_rules.specs.step.Routing.{CopyTo, deliver, deliver_by, is_queued
 use Rattle.mqtt_rules.specs.step.State.{Line as BrokerLine, Broker, Env, MemberChoice, is_of, line_at, line_of, queue_on, session_at, session_named}
 use Rattle.mqtt_rules.specs.step.Step.{Input, deeds, env_of, next_packet}
 use Rattle.mqtt_rules.specs.step.Subscribe.{FilterAnswer, FilterAnswers, Wish, answer_by, before, brought, filter_answer_of, filter_answers, granted_filter, has_filter, late_send, next_number, subscribe_by, subscription, wish_of}
-use Rattle.mqtt_rules.specs.declared.step.Limits.{Limits}
+use Rattle.mqtt_rules.specs.declared.step.Capacity.{Capacity}
 use Rattle.mqtt_packet.specs.declared.subscribe.subscribe.Subscribe.{Subscribe}
 use Rattle.mqtt_world_laws.proofs.receiver_lemmas.queue.Pumps.{its_session}
 use Rattle.mqtt_world_laws.proofs.receiver_lemmas.connects.Resuming.{call_is, greeting}
@@ -184,7 +184,7 @@ module _ (clean : Bool) (client : List ℕ) (window aliases : ℕ) (b : Broker) 
 
 -- ---- whatever it sends
 
-module _ (limits : Limits) (c d : MemberChoice) (now : ℕ) (r : Receiver) (b : Broker) where
+module _ (limits : Capacity) (c d : MemberChoice) (now : ℕ) (r : Receiver) (b : Broker) where
   abbrev IsSameOf : ℕ → Back → Type 0
   IsSameOf n x = deeds limits c now (Input n (wire_back r.client r.window r.aliases x)) b ≡ deeds limits d now (Input n (wire_back r.client r.window r.aliases x)) b
 

@@ -304,7 +304,7 @@ links_known set (Some n) client t names w h =
 happens_known : (set : Setting) (e : Event) (names : List (List ℕ)) (w : World) → Known names w → Known (named_after e names) (happens set e w)
 happens_known set (publisher client) names w h = record { publishers = all_one_more (IsKnown names) _ w.publishers never h.publishers; receivers = h.receivers }
 happens_known set (receiver client window aliases) names w h = record { publishers = h.publishers; receivers = all_one_more (IsKnownBack names) _ w.receivers never h.receivers }
-happens_known set (connect_end client clean) names w h = links_known set (next_line w.broker) client clean names w h
+happens_known set (connect_end client clean) names w h = links_known set (next_line set.limits w.broker) client clean names w h
 happens_known set (give_up client) names w h = record {
   publishers = his_kept names _ w.publishers (λ p. keeps_if (λ x. record x { line = gives_up x.line.link x.line }) p (bytes_eq p.client client) (his_gives names p.line.link p)) h.publishers;
   receivers = back_kept names _ w.receivers (λ r. back_if (λ x. record x { line = gives_up x.line.link x.line }) r (bytes_eq r.client client) (back_gives names r.line.link r)) h.receivers;

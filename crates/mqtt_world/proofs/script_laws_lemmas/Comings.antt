@@ -7,7 +7,7 @@ use Rattle.mqtt_packet.specs.stream.Front.{first_of}
 use Rattle.mqtt_rules.specs.step.Deeds.{Link}
 use Rattle.mqtt_rules.specs.step.State.{Broker, MemberChoice}
 use Rattle.mqtt_rules.specs.step.Step.{Call, NewLine, Outcome, at_moment, can_link, done, is_opening_spent, opened, outcome_of, stepped, told}
-use Rattle.mqtt_rules.specs.declared.step.Limits.{Limits}
+use Rattle.mqtt_rules.specs.declared.step.Capacity.{Capacity}
 use Rattle.mqtt_world_model.specs.model.Ends.{Publisher, Receiver}
 use Rattle.mqtt_world_model.specs.model.Lines.{Down, Line, is_one_of, known_by, sent_to, told_by, unless_closed}
 use Rattle.mqtt_world_model.specs.model.Run.{Reading, read_asked, read_if, read_rest, the_deeds}
@@ -36,7 +36,7 @@ deeds_there set None w ss = refl
 deeds_there set (Some call) w ss = refl
 
 -- a piece that comes for a stranger who stands is a turn
-pub piece_there : (limits : Limits) (choice : MemberChoice) (name piece : List ℕ) (s : Stranger) (t : Telling) (w after : World) → stranger_named name w ≡ Some s
+pub piece_there : (limits : Capacity) (choice : MemberChoice) (name piece : List ℕ) (s : Stranger) (t : Telling) (w after : World) → stranger_named name w ≡ Some s
     → AreAlike name w → first_of (held_after (bytes_come name piece w)) ≡ Ok None → is_bad (ask (stranger name piece)) w ≡ false
     → read_if spending (by_choice limits choice) (call_on s.number (s.held ++ piece)) w ≡ false
     → after ≡ calls_if (by_choice limits choice) (call_on s.number (s.held ++ piece)) (next_held name (with_stranger name (λ x. record x { held = x.held ++ piece }) w))
@@ -85,7 +85,7 @@ piece_there limits choice name piece s t w after there alike one good unspent is
 -- ---- one who comes first: as one would who was linked before, and had sent nothing
 
 -- so is the first piece of one who comes first
-pub piece_first : (limits : Limits) (choice : MemberChoice) (name piece : List ℕ) (t : Telling) (w after : World) → stranger_named name w ≡ None
+pub piece_first : (limits : Capacity) (choice : MemberChoice) (name piece : List ℕ) (t : Telling) (w after : World) → stranger_named name w ≡ None
     → is_bad (ask (stranger name piece)) w ≡ false → IsTurn limits (ask (stranger name piece)) t (welcomed (by_choice limits choice) name w) after
     → IsTurn limits (ask (stranger name piece)) t w after
 piece_first limits choice name piece t w after none good does = record {
@@ -157,7 +157,7 @@ stored_before set tick w p = (refl, refl)
 stored_before set (stranger name bytes) w p = absurd p
 
 -- a stop before the commit of a plain question is a reopening
-pub stops_before_plain : (limits : Limits) (a : Asking) (w after : World) → IsPlain a → is_bad_asking a w ≡ false → IsReopened limits w after
+pub stops_before_plain : (limits : Capacity) (a : Asking) (w after : World) → IsPlain a → is_bad_asking a w ≡ false → IsReopened limits w after
     → Happens limits (stop_before a) silent w after
 stops_before_plain limits a w after p good opens =
     let set = by_choice limits opens.choice in
@@ -176,7 +176,7 @@ held_forgotten name f ss = map_forgets (changed name f) unlinked ss (λ (s : Str
     by false s = refl
 
 -- so is one while a stranger who stands asks
-pub stops_before_there : (limits : Limits) (name bytes : List ℕ) (w after : World) → is_some (stranger_named name w) ≡ true
+pub stops_before_there : (limits : Capacity) (name bytes : List ℕ) (w after : World) → is_some (stranger_named name w) ≡ true
     → is_bad_asking (stranger name bytes) w ≡ false → IsReopened limits w after → Happens limits (stop_before (stranger name bytes)) silent w after
 stops_before_there limits name bytes w after there good opens =
     let set = by_choice limits opens.choice in
@@ -238,9 +238,9 @@ pub line_begins : (set : Setting) (w : World) → calls set NewLine w ≡ record
 line_begins set w =
     let b = stepped set.limits set.choice w.now NewLine w.broker in
     let out = told set.limits set.choice w.now NewLine w.broker in
-    let none = link_out (can_link w.broker) (suc w.broker.given) w.broker in
-    let bare = link_wires (can_link w.broker) (suc w.broker.given) (at_moment w.now w.broker) in
-    let shut = link_closed (can_link w.broker) (suc w.broker.given) w.broker in
+    let none = link_out (can_link set.limits w.broker) (suc w.broker.given) w.broker in
+    let bare = link_wires (can_link set.limits w.broker) (suc w.broker.given) (at_moment w.now w.broker) in
+    let shut = link_closed (can_link set.limits w.broker) (suc w.broker.given) w.broker in
     ap (λ (ps : List Publisher). record (calls set NewLine w) { publishers = ps })
     (map_same (publisher_told b out) w.publishers (λ p. ap (λ (l : Line _). record p { line = l }) (nothing_told_by b out p.line none bare shut)))
     ∙ ap (λ (rs : List Receiver). record w { broker = b; receivers = rs })
@@ -251,17 +251,17 @@ link_stored true n b = refl
 link_stored false n b = refl
 
 -- a restart forgets that a stranger came first, but for its name
-pub stops_before_first : (limits : Limits) (name bytes : List ℕ) (w after : World) → stranger_named name w ≡ None
+pub stops_before_first : (limits : Capacity) (name bytes : List ℕ) (w after : World) → stranger_named name w ≡ None
     → is_bad_asking (stranger name bytes) w ≡ false → IsReopened limits (record w { strangers = w.strangers ++ newcomer name None ∷ [] }) after
     → Happens limits (stop_before (stranger name bytes)) silent w after
 stops_before_first limits name bytes w after none good opens =
     let set = by_choice limits opens.choice in
-    let n = newcomer name (next_line w.broker) in
+    let n = newcomer name (next_line set.limits w.broker) in
     let c : World = record w { broker = stepped limits opens.choice w.now NewLine w.broker; strangers = w.strangers ++ record n { held = bytes } ∷ [] } in
     let come_is : comes set name bytes w ≡ c =
     ap (λ (o : Option Stranger). linked_at set (is_some o) name bytes w) none
     ∙ ap (λ (v : World). record v { strangers = w.strangers ++ record n { held = bytes } ∷ [] }) (line_begins set w) in
-    let stored : c.broker.records ≡ w.broker.records = link_stored (can_link w.broker) (suc w.broker.given) (at_moment w.now w.broker) in
+    let stored : c.broker.records ≡ w.broker.records = link_stored (can_link set.limits w.broker) (suc w.broker.given) (at_moment w.now w.broker) in
     let left : map unlinked (w.strangers ++ record n { held = bytes } ∷ []) ≡ map unlinked (w.strangers ++ newcomer name None ∷ []) =
     map-append unlinked w.strangers (record n { held = bytes } ∷ []) ∙ sym (map-append unlinked w.strangers (newcomer name None ∷ [])) in
     stops_before limits opens.choice (stranger name bytes) w after good

@@ -3,7 +3,7 @@ use Rattle.std.proofs.Common.{◌≡◌, ℕ, zero, suc, true, false, List, [], 
 use Rattle.mqtt_world_model.specs.model.Run.{Turn, run}
 use Rattle.mqtt_world_model.specs.model.Tellings.{Telling}
 use Rattle.mqtt_world_model.specs.model.World.{Event, World, ask, pump, receiver_named, to_broker, to_end}
-use Rattle.mqtt_rules.specs.declared.step.Limits.{Limits}
+use Rattle.mqtt_rules.specs.declared.step.Capacity.{Capacity}
 use Rattle.mqtt_world_model.specs.single_steps.Unrolled.{turn}
 use Rattle.mqtt_world_laws.specs.acceptance.Spending.{run_spends}
 use Rattle.mqtt_world_laws.specs.receiver.Drains.{downs_by, is_over, times, ups_by}
@@ -14,27 +14,27 @@ use Rattle.mqtt_world.proofs.script_laws_lemmas.Costs.{spent_joined}
 use Rattle.mqtt_world.proofs.script_laws_lemmas.Single.{turn_is, turn_unspent}
 
 -- the turns lead from the one world to the other, and spend no number
-pub record Leads (limits : Limits) (ts : List Turn) (w after : World) : Type 0 where
+pub record Leads (limits : Capacity) (ts : List Turn) (w after : World) : Type 0 where
   pub is : after ≡ run limits ts w
   pub unspent : run_spends limits ts w ≡ false
 
-lead_joined : (limits : Limits) (xs ys : List Turn) (w mid after : World) → Leads limits xs w mid → Leads limits ys mid after → Leads limits (xs ++ ys) w after
+lead_joined : (limits : Capacity) (xs ys : List Turn) (w mid after : World) → Leads limits xs w mid → Leads limits ys mid after → Leads limits (xs ++ ys) w after
 lead_joined limits xs ys w mid after x y = record {
   is = y.is ∙ (ap (run limits ys) x.is ∙ sym (run_append limits xs ys w));
   unspent = spent_joined limits xs ys w x.unspent (subst (λ (v : World). run_spends limits ys v ≡ false) x.is y.unspent);
 }
 
-own_turn : (limits : Limits) (e : Event) (t : Telling) (w after : World) → (does : IsTurn limits e t w after) → Leads limits (turn does.choice e ∷ []) w after
+own_turn : (limits : Capacity) (e : Event) (t : Telling) (w after : World) → (does : IsTurn limits e t w after) → Leads limits (turn does.choice e ∷ []) w after
 own_turn limits e t w after does = record { is = does.is ∙ sym (turn_is limits does.choice e w does.good); unspent = turn_unspent limits does.choice e w does.good does.unspent }
 
-repeats_by_turns : (limits : Limits) (n : ℕ) (e : Event) (t : Telling) (w after : World) → Repeats limits n e t w after → (ts : List Turn) × (events_of ts ≡ times n e) × Leads limits ts w after
+repeats_by_turns : (limits : Capacity) (n : ℕ) (e : Event) (t : Telling) (w after : World) → Repeats limits n e t w after → (ts : List Turn) × (events_of ts ≡ times n e) × Leads limits ts w after
 repeats_by_turns limits zero e t w after h = ([], refl, record { is = h.1; unspent = refl })
 repeats_by_turns limits (suc more) e t w after (first, rest, mid, does, others, told) =
     let x = own_turn limits e first w mid does in
     let y = repeats_by_turns limits more e rest mid after others in
     (turn does.choice e ∷ y.0, ap (λ (es : List Event). e ∷ es) y.1, lead_joined limits (turn does.choice e ∷ []) y.0 w mid after x y.2)
 
-round_by_turns : (limits : Limits) (client : List ℕ) (t : Telling) (w after : World) → IsRound limits client t w after → (ts : List Turn) × AreTurnsOfRound limits client ts w × Leads limits ts w after
+round_by_turns : (limits : Capacity) (client : List ℕ) (t : Telling) (w after : World) → IsRound limits client t w after → (ts : List Turn) × AreTurnsOfRound limits client ts w × Leads limits ts w after
 round_by_turns limits client t w after x =
     let sends : List Turn = turn x.sends.choice (ask (pump client)) ∷ [] in
     let one : Leads limits sends w x.sent = own_turn limits (ask (pump client)) x.first w x.sent x.sends in
@@ -55,7 +55,7 @@ round_by_turns limits client t w after x =
     )
 
 -- the rounds of a drain that ends are turns
-pub rounds_by_turns : (limits : Limits) (client : List ℕ) (rounds : ℕ) (t : Telling) (w after : World) → MakesRounds limits client rounds t w after → is_over client after ≡ true
+pub rounds_by_turns : (limits : Capacity) (client : List ℕ) (rounds : ℕ) (t : Telling) (w after : World) → MakesRounds limits client rounds t w after → is_over client after ≡ true
     → (ts : List Turn) × AreTurnsOfRounds limits client rounds ts w × Leads limits ts w after
 rounds_by_turns limits client zero t w after h over = ([], (sym (ap (is_over client) h.1) ∙ over, refl), record { is = h.1; unspent = refl })
 rounds_by_turns limits client (suc rounds) t w after (on, first, rest, mid, made, others, told) over =

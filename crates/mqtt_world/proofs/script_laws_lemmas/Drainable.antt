@@ -6,7 +6,7 @@ use Rattle.mqtt_world_model.specs.model.Run.{Turn, read_in, run, the_deeds}
 use Rattle.mqtt_world_model.specs.model.Tellings.{Telling, silent, telling}
 use Rattle.mqtt_world_model.specs.model.World.{Event, World, ask, is_bad, is_end, publisher_named, pump, receiver_named, to_broker, to_end}
 use Rattle.mqtt_rules.specs.step.State.{MemberChoice}
-use Rattle.mqtt_rules.specs.declared.step.Limits.{Limits}
+use Rattle.mqtt_rules.specs.declared.step.Capacity.{Capacity}
 use Rattle.mqtt_world_laws.specs.acceptance.Copies.{entered_from}
 use Rattle.mqtt_world_laws.specs.acceptance.Spending.{run_spends}
 use Rattle.mqtt_world_laws.specs.receiver.Drains.{after_round, all_to_broker, all_to_end, copies_left, count_by_end, downs_by, drain_by, drain_turns, drained, enough_rounds, is_bad_drain, is_over, round_turns, rounds_taken, times, turn_of, ups_by}
@@ -22,7 +22,7 @@ use Rattle.mqtt_world.proofs.script_laws_lemmas.OneTurn.{turn_costs}
 use Rattle.mqtt_world.proofs.script_laws_lemmas.Repeated.{some_there}
 use Rattle.mqtt_world.proofs.script_laws_lemmas.Single.{turn_is}
 
-module _ (client : List ℕ) (limits : Limits) (choice : MemberChoice) where
+module _ (client : List ℕ) (limits : Capacity) (choice : MemberChoice) where
   abbrev its : Event → Turn
   its e = turn_of choice e
 

@@ -6,7 +6,7 @@ use Rattle.mqtt_world_model.specs.model.Run.{Turn, deeds_over, run}
 use Rattle.mqtt_world_model.specs.model.Tellings.{Telling, silent, telling}
 use Rattle.mqtt_world_model.specs.model.World.{World, ask, pump, receiver_named, to_broker, to_end}
 use Rattle.mqtt_rules.specs.step.State.{MemberChoice}
-use Rattle.mqtt_rules.specs.declared.step.Limits.{Limits}
+use Rattle.mqtt_rules.specs.declared.step.Capacity.{Capacity}
 use Rattle.mqtt_script.specs.declared.event.Event.{Event}
 use Rattle.mqtt_world_laws.specs.acceptance.Copies.{entered_from}
 use Rattle.mqtt_world_laws.specs.acceptance.Spending.{run_spends}
@@ -24,7 +24,7 @@ use Rattle.mqtt_world.proofs.script_laws_lemmas.Repeated.{Comes, IsReady, answer
 
 -- ---- a round by one choice
 
-module _ (client : List ℕ) (limits : Limits) (choice : MemberChoice) where
+module _ (client : List ℕ) (limits : Capacity) (choice : MemberChoice) where
   -- if it is not over its receiver is there
   pub has_receiver : (w : World) → is_over client w ≡ false → is_some (receiver_named client w) ≡ true
   has_receiver w on = by (receiver_named client w) refl
@@ -144,7 +144,7 @@ module _ (client : List ℕ) (limits : Limits) (choice : MemberChoice) where
 -- ---- one round more
 
 -- one round more behind rounds is rounds
-pub a_round_more : (limits : Limits) (client : List ℕ) (rounds : ℕ) (t u : Telling) (w mid after : World) → MakesRounds limits client rounds t w mid → is_over client mid ≡ false → IsRound limits client u mid after
+pub a_round_more : (limits : Capacity) (client : List ℕ) (rounds : ℕ) (t u : Telling) (w mid after : World) → MakesRounds limits client rounds t w mid → is_over client mid ≡ false → IsRound limits client u mid after
     → MakesRounds limits client (suc rounds) (both_tell t u) w after
 a_round_more limits client zero t u w mid after h on x =
     (sym (ap (is_over client) h.1) ∙ on, u, silent, after, subst (λ (v : World). IsRound limits client u v after) h.1 x, (refl, refl), ap (λ (z : Telling). both_tell z u) h.0 ∙ (tell_nothing_first u ∙ sym (tell_nothing_more u)))
@@ -153,7 +153,7 @@ a_round_more limits client (suc rounds) t u w mid after (at, first, rest, v, mad
 
 -- ---- from wherever a script has come to
 
-module _ (limits : Limits) (es : List Event) (choice : MemberChoice) (client : List ℕ) (w v : World) (untouched : IsUntouched limits w) (comes : ComesFairly limits es w v) where
+module _ (limits : Capacity) (es : List Event) (choice : MemberChoice) (client : List ℕ) (w v : World) (untouched : IsUntouched limits w) (comes : ComesFairly limits es w v) where
   -- where a script has led, the receiver is kept as a drain asks
   pub kept_there : IsKept [] client limits v
   kept_there = subst (IsKept [] client limits) (sym comes.is) (fair_run_kept limits comes.turns w untouched comes.fair client)

@@ -5,7 +5,7 @@ use Rattle.std.specs.List.{AllByRecursion}
 use Rattle.mqtt_packet.specs.declared.codec.packet.Packet.{Packet}
 use Rattle.mqtt_rules.specs.step.Contents.{IsTaken}
 use Rattle.mqtt_rules.specs.step.Laws.{AreWithin}
-use Rattle.mqtt_rules.specs.declared.step.Limits.{Limits}
+use Rattle.mqtt_rules.specs.declared.step.Capacity.{Capacity}
 use Rattle.mqtt_world_model.specs.model.Tellings.{Telling}
 use Rattle.mqtt_world_model.specs.model.World as world
 use Rattle.mqtt_world_model.specs.model.World.{World, ask, input_on, start, view_of}
@@ -53,24 +53,24 @@ only_bad e w h (bad_drain client is bad) = bad_as_drain client is bad
 
 -- ---- where a script has come to
 
-script_takes : (limits : Limits) (es : List Event) (tells : List Telling) (w after : World) → IsUninhabited w → SendsWell w.broker
+script_takes : (limits : Capacity) (es : List Event) (tells : List Telling) (w after : World) → IsUninhabited w → SendsWell w.broker
     → RunsTo limits es tells w after → TakesAllUnderWay after
 script_takes limits es tells w after nobody sends runs =
     let by : IsRunOf limits es w after = runs_by_turns limits es tells w after runs in
     subst TakesAllUnderWay (sym by.is) (under_way limits by.turns w nobody sends by.unspent)
 
 -- no packet in front is one that the broker would not take
-pub script_fronts : (limits : Limits) (es : List Event) (tells : List Telling) (w after : World) → IsUninhabited w → SendsWell w.broker
+pub script_fronts : (limits : Capacity) (es : List Event) (tells : List Telling) (w after : World) → IsUninhabited w → SendsWell w.broker
     → RunsTo limits es tells w after → (x : world.Event) → HasBadFront x after → ⊥
 script_fronts limits es tells w after nobody sends runs x bad = fronts_taken x after (script_takes limits es tells w after nobody sends runs) bad
 
 -- so an event is refused only if it is bad
-pub script_refuses : (limits : Limits) (es : List Event) (tells : List Telling) (w after : World) → IsUninhabited w → SendsWell w.broker
+pub script_refuses : (limits : Capacity) (es : List Event) (tells : List Telling) (w after : World) → IsUninhabited w → SendsWell w.broker
     → RunsTo limits es tells w after → (e : Event) → IsBadHere e after → IsBad e after
 script_refuses limits es tells w after nobody sends runs e bad = only_bad e after (script_takes limits es tells w after nobody sends runs) bad
 
 -- also from the start
-pub start_refuses : (limits : Limits) (es : List Event) (tells : List Telling) (after : World) → AreWithin limits
+pub start_refuses : (limits : Capacity) (es : List Event) (tells : List Telling) (after : World) → AreWithin limits
     → RunsTo limits es tells start after → (e : Event) → IsBadHere e after → IsBad e after
 start_refuses limits es tells after within runs e bad =
     script_refuses limits es tells start after (record { publishers = refl; receivers = refl; strangers = refl }) (start_sends limits within) runs e bad

@@ -6,7 +6,7 @@ use Rattle.std.proofs.lemmas.List.Elements.{filter_map-append}
 use Rattle.mqtt_packet.specs.stream.Front.{first_of}
 use Rattle.mqtt_rules.specs.step.Deeds.{Deed, output, report}
 use Rattle.mqtt_rules.specs.step.Step.{Call}
-use Rattle.mqtt_rules.specs.declared.step.Limits.{Limits}
+use Rattle.mqtt_rules.specs.declared.step.Capacity.{Capacity}
 use Rattle.mqtt_world_model.specs.model.Run.{Reading, Turn, deeds_over, read_asked, read_if, read_in, read_rest, run, the_deeds}
 use Rattle.mqtt_world_model.specs.model.Tellings.{Telling, silent, telling}
 use Rattle.mqtt_world_model.specs.model.World.{Event, Setting, World, ask, asks, bytes_held, call_of_stranger, comes}
@@ -24,7 +24,7 @@ use Rattle.mqtt_world.proofs.script_laws_lemmas.Single.{stops, turn_happens, tur
 -- ---- one piece
 
 -- a piece behind which no packet is whole is the last
-pub last_piece : (limits : Limits) (name piece : List ℕ) (t : Telling) (w after : World) → first_of (held_after (bytes_come name piece w)) ≡ Ok None
+pub last_piece : (limits : Capacity) (name piece : List ℕ) (t : Telling) (w after : World) → first_of (held_after (bytes_come name piece w)) ≡ Ok None
     → IsTurn limits (ask (stranger name piece)) t w after → Happens limits (ask (stranger name piece)) t w after
 last_piece limits name piece t w after one does =
     turn_happens limits (ask (stranger name piece)) t w after (piece ∷ [], append-nil piece, one, refl) does
@@ -41,7 +41,7 @@ told_joined xs ys =
     (ap length (filter_map-append output xs ys) ∙ length_joined (filter_map output xs) (filter_map output ys))
 
 -- a piece that ends with a packet, and what comes behind it
-pub piece_and_more : (limits : Limits) (name piece more : List ℕ) (t u : Telling) (w mid after : World) → AreAlike name w
+pub piece_and_more : (limits : Capacity) (name piece more : List ℕ) (t u : Telling) (w mid after : World) → AreAlike name w
     → is_bad (ask (stranger name (piece ++ more))) w ≡ false → IsWhole (bytes_come name piece w)
     → IsTurn limits (ask (stranger name piece)) t w mid → Happens limits (ask (stranger name more)) u mid after
     → Happens limits (ask (stranger name (piece ++ more))) (both_tell t u) w after
@@ -94,7 +94,7 @@ piece_and_more limits name piece more t u w mid after alike good whole does rest
 -- ---- a stop at a stranger's bytes, of which those up to the first packet come
 
 -- a stop behind the first part of a stranger's bytes that is decided
-pub stops_after_piece : (limits : Limits) (name bytes part more : List ℕ) (t : Telling) (w mid after : World) → is_bad (ask (stranger name bytes)) w ≡ false
+pub stops_after_piece : (limits : Capacity) (name bytes part more : List ℕ) (t : Telling) (w mid after : World) → is_bad (ask (stranger name bytes)) w ≡ false
     → part ++ more ≡ bytes → (more ≡ []) ⊎ IsDecided (bytes_come name part w) → first_of (held_after (bytes_come name part w)) ≡ Ok None
     → IsTurn limits (ask (stranger name part)) t w mid → IsReopened limits mid after → Happens limits (stop_after (stranger name bytes)) silent w after
 stops_after_piece limits name bytes part more t w mid after good joined found none does opens =

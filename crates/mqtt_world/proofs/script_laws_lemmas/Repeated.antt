@@ -9,7 +9,7 @@ use Rattle.mqtt_world_model.specs.model.World.{Event, View, World, ask, calls_if
 use Rattle.mqtt_rules.specs.step.Deeds.{Deed}
 use Rattle.mqtt_rules.specs.step.State.{MemberChoice}
 use Rattle.mqtt_rules.specs.step.Step.{Call, Input, Pump, at_moment, deeds, done, is_spent, outcome_of, rows_written}
-use Rattle.mqtt_rules.specs.declared.step.Limits.{Limits}
+use Rattle.mqtt_rules.specs.declared.step.Capacity.{Capacity}
 use Rattle.mqtt_world_laws.specs.acceptance.Spending.{run_spends, spending}
 use Rattle.mqtt_world_laws.specs.receiver.Drains.{times, turn_of}
 use Rattle.mqtt_world_laws.proofs.receiver_lemmas.drains.DrainRuns.{run_append}
@@ -27,12 +27,12 @@ use Rattle.mqtt_world.proofs.script_laws_lemmas.Single.{turn_deeds, turn_is, tur
 -- ---- turns behind turns
 
 -- these turns come to that world, spend no number and tell this
-pub record Comes (limits : Limits) (ts : List Turn) (t : Telling) (w after : World) : Type 0 where
+pub record Comes (limits : Capacity) (ts : List Turn) (t : Telling) (w after : World) : Type 0 where
   pub is : after ≡ run limits ts w
   pub unspent : run_spends limits ts w ≡ false
   pub told : t ≡ telling (deeds_over limits ts w)
 
-deeds_joined : (limits : Limits) (xs ys : List Turn) (w : World) → deeds_over limits (xs ++ ys) w ≡ deeds_over limits xs w ++ deeds_over limits ys (run limits xs w)
+deeds_joined : (limits : Capacity) (xs ys : List Turn) (w : World) → deeds_over limits (xs ++ ys) w ≡ deeds_over limits xs w ++ deeds_over limits ys (run limits xs w)
 deeds_joined limits [] ys w = refl
 deeds_joined limits (t ∷ xs) ys w =
     let ds = read_at the_deeds (setting limits t) t.event w in
@@ -41,7 +41,7 @@ deeds_joined limits (t ∷ xs) ys w =
     ∙ sym (append_assoc ds (deeds_over limits xs v) (deeds_over limits ys (run limits xs v)))
 
 -- two comings, one behind the other, are one
-pub come_joined : (limits : Limits) (xs ys : List Turn) (t u : Telling) (w mid after : World) → Comes limits xs t w mid → Comes limits ys u mid after → Comes limits (xs ++ ys) (both_tell t u) w after
+pub come_joined : (limits : Capacity) (xs ys : List Turn) (t u : Telling) (w mid after : World) → Comes limits xs t w mid → Comes limits ys u mid after → Comes limits (xs ++ ys) (both_tell t u) w after
 come_joined limits xs ys t u w mid after x y = record {
   is = y.is ∙ (ap (run limits ys) x.is ∙ sym (run_append limits xs ys w));
   unspent = spent_joined limits xs ys w x.unspent (subst (λ (v : World). run_spends limits ys v ≡ false) x.is y.unspent);
@@ -54,12 +54,12 @@ come_joined limits xs ys t u w mid after x y = record {
 -- ---- where a receiver stands
 
 -- the receiver is there, and kept as a drain asks
-pub record IsReady (client : List ℕ) (limits : Limits) (w : World) : Type 0 where
+pub record IsReady (client : List ℕ) (limits : Capacity) (w : World) : Type 0 where
   pub kept : IsKept [] client limits w
   pub there : is_some (receiver_named client w) ≡ true
 
 -- an end that is there stays
-pub some_there : (client : List ℕ) (limits : Limits) (ts : List Turn) (w : World) → is_some (receiver_named client w) ≡ true → is_some (receiver_named client (run limits ts w)) ≡ true
+pub some_there : (client : List ℕ) (limits : Capacity) (ts : List Turn) (w : World) → is_some (receiver_named client w) ≡ true → is_some (receiver_named client (run limits ts w)) ≡ true
 some_there client limits ts w there = by (receiver_named client w) refl there
   where
     by : (o : Option Receiver) → receiver_named client w ≡ o → is_some o ≡ true → is_some (receiver_named client (run limits ts w)) ≡ true
@@ -67,7 +67,7 @@ some_there client limits ts w there = by (receiver_named client w) refl there
     by (Some r) e h = ap is_some (run_remains client limits ts w r e).1
 
 -- an end that is ready stays ready
-pub ready_after : (client : List ℕ) (limits : Limits) (ts : List Turn) (t : Telling) (w after : World) → IsReady client limits w → Comes limits ts t w after → are_beginnings_clean limits ts w ≡ true → IsReady client limits after
+pub ready_after : (client : List ℕ) (limits : Capacity) (ts : List Turn) (t : Telling) (w after : World) → IsReady client limits w → Comes limits ts t w after → are_beginnings_clean limits ts w ≡ true → IsReady client limits after
 ready_after client limits ts t w after h x carried = record {
   kept = subst (IsKept [] client limits) (sym x.is) (run_kept [] client limits ts w h.kept x.unspent carried);
   there = ap (λ (v : World). is_some (receiver_named client v)) x.is ∙ some_there client limits ts w h.there;
@@ -83,17 +83,17 @@ called_by call ds w =
     record w { broker = b; publishers = map (publisher_told b out) w.publishers; receivers = map (receiver_told b out) w.receivers }
 
 -- the event is the same by both
-pub record IsSame (limits : Limits) (c d : MemberChoice) (e : Event) (w : World) : Type 0 where
+pub record IsSame (limits : Capacity) (c d : MemberChoice) (e : Event) (w : World) : Type 0 where
   pub does : happens (by_choice limits c) e w ≡ happens (by_choice limits d) e w
   pub spends : read_in spending (by_choice limits c) e w ≡ read_in spending (by_choice limits d) e w
   pub deeds_are : read_in the_deeds (by_choice limits c) e w ≡ read_in the_deeds (by_choice limits d) e w
 
-record IsSameCall (limits : Limits) (c d : MemberChoice) (o : Option Call) (w : World) : Type 0 where
+record IsSameCall (limits : Capacity) (c d : MemberChoice) (o : Option Call) (w : World) : Type 0 where
   pub does : calls_if (by_choice limits c) o w ≡ calls_if (by_choice limits d) o w
   pub spends : read_if spending (by_choice limits c) o w ≡ read_if spending (by_choice limits d) o w
   pub deeds_are : read_if the_deeds (by_choice limits c) o w ≡ read_if the_deeds (by_choice limits d) o w
 
-module _ (limits : Limits) (c d : MemberChoice) where
+module _ (limits : Capacity) (c d : MemberChoice) where
   call_same : (o : Option Call) (w : World) → ((call : Call) → o ≡ Some call → deeds limits c w.now call w.broker ≡ deeds limits d w.now call w.broker) → IsSameCall limits c d o w
   call_same None w h = record { does = refl; spends = refl; deeds_are = refl }
   call_same (Some call) w h =
@@ -152,7 +152,7 @@ module _ (limits : Limits) (c d : MemberChoice) where
 -- ---- a turn by another choice than its own
 
 -- a turn may be made by another choice that comes to the same
-pub turn_by : (limits : Limits) (d : MemberChoice) (e : Event) (t : Telling) (w after : World) → (does : IsTurn limits e t w after) → IsSame limits does.choice d e w → Comes limits (turn_of d e ∷ []) t w after
+pub turn_by : (limits : Capacity) (d : MemberChoice) (e : Event) (t : Telling) (w after : World) → (does : IsTurn limits e t w after) → IsSame limits does.choice d e w → Comes limits (turn_of d e ∷ []) t w after
 turn_by limits d e t w after does same = record {
   is = does.is ∙ (same.does ∙ sym (turn_is limits d e w does.good));
   unspent = turn_unspent limits d e w does.good (sym same.spends ∙ does.unspent);
@@ -162,7 +162,7 @@ turn_by limits d e t w after does same = record {
 -- ---- some turns
 
 -- so may many
-pub repeats_by : (client : List ℕ) (limits : Limits) (d : MemberChoice) (e : Event) → ((w : World) → begins_clean e w ≡ true) → ((c : MemberChoice) (w : World) → IsReady client limits w → IsSame limits c d e w)
+pub repeats_by : (client : List ℕ) (limits : Capacity) (d : MemberChoice) (e : Event) → ((w : World) → begins_clean e w ≡ true) → ((c : MemberChoice) (w : World) → IsReady client limits w → IsSame limits c d e w)
     → (n : ℕ) (t : Telling) (w after : World) → IsReady client limits w → Repeats limits n e t w after → Comes limits (times n (turn_of d e)) t w after × IsReady client limits after
 repeats_by client limits d e carries same zero t w after h k = (record { is = k.1; unspent = refl; told = k.0 }, subst (IsReady client limits) (sym k.1) h)
 repeats_by client limits d e carries same (suc more) t w after h (first, rest, mid, does, others, told) =
@@ -188,7 +188,7 @@ tell_together t u v =
     ∙ ap (λ (n : ℕ). record { reports = t.reports ++ (u.reports ++ v.reports); out = n }) (omega arith)
 
 -- one more
-pub once_more : (limits : Limits) (n : ℕ) (e : Event) (t u : Telling) (w mid after : World) → Repeats limits n e t w mid → IsTurn limits e u mid after → Repeats limits (suc n) e (both_tell t u) w after
+pub once_more : (limits : Capacity) (n : ℕ) (e : Event) (t u : Telling) (w mid after : World) → Repeats limits n e t w mid → IsTurn limits e u mid after → Repeats limits (suc n) e (both_tell t u) w after
 once_more limits zero e t u w mid after h does =
     (u, silent, after, subst (λ (v : World). IsTurn limits e u v after) h.1 does, (refl, refl), ap (λ (x : Telling). both_tell x u) h.0 ∙ (tell_nothing_first u ∙ sym (tell_nothing_more u)))
 once_more limits (suc n) e t u w mid after (first, rest, v, begins, others, told) does =

@@ -4,7 +4,7 @@ use Rattle.std.proofs.lemmas.List.{append-nil}
 use Rattle.mqtt_rules.specs.step.Deeds.{Link}
 use Rattle.mqtt_rules.specs.step.State.{MemberChoice}
 use Rattle.mqtt_rules.specs.step.Step.{Call, can_link, deeds, is_opening_spent, is_step_spent}
-use Rattle.mqtt_rules.specs.declared.step.Limits.{Limits}
+use Rattle.mqtt_rules.specs.declared.step.Capacity.{Capacity}
 use Rattle.mqtt_world_model.specs.model.Lines.{left}
 use Rattle.mqtt_world_model.specs.model.Run.{Turn, deeds_at, deeds_over, read_if, read_in, run, the_deeds}
 use Rattle.mqtt_world_model.specs.model.Tellings.{Telling, silent, telling, tells}
@@ -22,24 +22,24 @@ use Rattle.mqtt_world.proofs.script_laws_lemmas.Costs.{spent_joined}
 -- ---- one turn
 
 -- an event that costs nothing is a turn that spends nothing
-pub turn_unspent : (limits : Limits) (choice : MemberChoice) (e : Event) (w : World) → is_bad e w ≡ false → read_in spending (by_choice limits choice) e w ≡ false
+pub turn_unspent : (limits : Capacity) (choice : MemberChoice) (e : Event) (w : World) → is_bad e w ≡ false → read_in spending (by_choice limits choice) e w ≡ false
     → run_spends limits (turn choice e ∷ []) w ≡ false
 turn_unspent limits choice e w good unspent =
     ap (λ (t : Bool). cond t false (read_in spending (by_choice limits choice) e w) || false) good ∙ ap (λ (t : Bool). t || false) unspent
 
 -- a turn is its event
-pub turn_is : (limits : Limits) (choice : MemberChoice) (e : Event) (w : World) → is_bad e w ≡ false → run limits (turn choice e ∷ []) w ≡ happens (by_choice limits choice) e w
+pub turn_is : (limits : Capacity) (choice : MemberChoice) (e : Event) (w : World) → is_bad e w ≡ false → run limits (turn choice e ∷ []) w ≡ happens (by_choice limits choice) e w
 turn_is limits choice e w good = ap (λ (t : Bool). cond t w (happens (by_choice limits choice) e w)) good
 
 -- with its deeds
-pub turn_deeds : (limits : Limits) (choice : MemberChoice) (e : Event) (w : World) → is_bad e w ≡ false
+pub turn_deeds : (limits : Capacity) (choice : MemberChoice) (e : Event) (w : World) → is_bad e w ≡ false
     → deeds_over limits (turn choice e ∷ []) w ≡ read_in the_deeds (by_choice limits choice) e w
 turn_deeds limits choice e w good =
     let ds = read_in the_deeds (by_choice limits choice) e w in
     ap (λ (t : Bool). cond t [] ds ++ []) good ∙ append-nil ds
 
 -- an event of one step happens as its turn
-pub turn_happens : (limits : Limits) (e : Event) (t : Telling) (w after : World) → Unrolls e w (e ∷ []) → IsTurn limits e t w after
+pub turn_happens : (limits : Capacity) (e : Event) (t : Telling) (w after : World) → Unrolls e w (e ∷ []) → IsTurn limits e t w after
     → Happens limits e (tells_if (is_heard e) t) w after
 turn_happens limits e t w after unrolls does = record {
   good = does.good;
@@ -53,7 +53,7 @@ turn_happens limits e t w after unrolls does = record {
 -- ---- what ends do: the broker takes no part
 
 -- a quiet event happens without telling anything
-pub quiet : (limits : Limits) (choice : MemberChoice) (e : Event) (w after : World) → IsQuiet e → is_bad e w ≡ false → after ≡ happens (by_choice limits choice) e w → Happens limits e silent w after
+pub quiet : (limits : Capacity) (choice : MemberChoice) (e : Event) (w after : World) → IsQuiet e → is_bad e w ≡ false → after ≡ happens (by_choice limits choice) e w → Happens limits e silent w after
 quiet limits choice (publisher client) w after q good is = turn_happens limits (publisher client) silent w after refl (record { choice = choice; good = good; unspent = refl; is = is; told = refl })
 quiet limits choice (receiver client window aliases) w after q good is = turn_happens limits (receiver client window aliases) silent w after refl (record { choice = choice; good = good; unspent = refl; is = is; told = refl })
 quiet limits choice (connect_end client clean) w after q good is = absurd q
@@ -73,15 +73,15 @@ link_tells true n = refl
 link_tells false n = refl
 
 -- an end that connects tells what the broker tells
-pub joins : (limits : Limits) (choice : MemberChoice) (client : List ℕ) (clean : Bool) (w after : World) → is_bad (connect_end client clean) w ≡ false
-    → after ≡ links (by_choice limits choice) (next_line w.broker) client clean w → Happens limits (connect_end client clean) silent w after
+pub joins : (limits : Capacity) (choice : MemberChoice) (client : List ℕ) (clean : Bool) (w after : World) → is_bad (connect_end client clean) w ≡ false
+    → after ≡ links (by_choice limits choice) (next_line limits w.broker) client clean w → Happens limits (connect_end client clean) silent w after
 joins limits choice client clean w after good is =
     turn_happens limits (connect_end client clean) silent w after refl
-    (record { choice = choice; good = good; unspent = refl; is = is; told = link_tells (can_link w.broker) (suc w.broker.given) })
+    (record { choice = choice; good = good; unspent = refl; is = is; told = link_tells (can_link limits w.broker) (suc w.broker.given) })
 
 -- ---- what the broker is asked for by no stranger
 
-plain_turn : (limits : Limits) (choice : MemberChoice) (a : Asking) (t : Telling) (w after : World) → IsPlain a → is_bad_asking a w ≡ false
+plain_turn : (limits : Capacity) (choice : MemberChoice) (a : Asking) (t : Telling) (w after : World) → IsPlain a → is_bad_asking a w ≡ false
     → read_if spending (by_choice limits choice) (call_of (by_choice limits choice) a w) (before (by_choice limits choice) a w) ≡ false
     → after ≡ asks (by_choice limits choice) a w
     → t ≡ telling (read_if the_deeds (by_choice limits choice) (call_of (by_choice limits choice) a w) (before (by_choice limits choice) a w))
@@ -102,7 +102,7 @@ left_by (pump client) w = w
 left_by tick w = w
 left_by (stranger name bytes) w = w
 
-plain_asks : (limits : Limits) (choice : MemberChoice) (a : Asking) (w : World) → IsPlain a
+plain_asks : (limits : Capacity) (choice : MemberChoice) (a : Asking) (w : World) → IsPlain a
     → left_by a (first_step (by_choice limits choice) a w) ≡ asks (by_choice limits choice) a w
 plain_asks limits choice (to_broker client) w p = refl
 plain_asks limits choice (old_to_broker client) w p = refl
@@ -112,7 +112,7 @@ plain_asks limits choice tick w p = refl
 plain_asks limits choice (stranger name bytes) w p = absurd p
 
 -- there is nothing to ask the broker for
-pub asks_nothing : (limits : Limits) (choice : MemberChoice) (a : Asking) (w after : World) → IsPlain a → is_bad_asking a w ≡ false
+pub asks_nothing : (limits : Capacity) (choice : MemberChoice) (a : Asking) (w after : World) → IsPlain a → is_bad_asking a w ≡ false
     → call_of (by_choice limits choice) a w ≡ None → after ≡ left_by a (before (by_choice limits choice) a w) → IsTurn limits (ask a) silent w after
 asks_nothing limits choice a w after p good none is =
     let set = by_choice limits choice in
@@ -123,7 +123,7 @@ asks_nothing limits choice a w after p good none is =
     (sym (ap (λ (o : Option Call). telling (read_if the_deeds set o v)) none))
 
 -- a call of the broker
-pub asks_call : (limits : Limits) (choice : MemberChoice) (a : Asking) (call : Call) (t : Telling) (w after : World) → IsPlain a → is_bad_asking a w ≡ false
+pub asks_call : (limits : Capacity) (choice : MemberChoice) (a : Asking) (call : Call) (t : Telling) (w after : World) → IsPlain a → is_bad_asking a w ≡ false
     → call_of (by_choice limits choice) a w ≡ Some call
     → is_step_spent limits choice (before (by_choice limits choice) a w).now call (before (by_choice limits choice) a w).broker ≡ false
     → after ≡ left_by a (calls (by_choice limits choice) call (before (by_choice limits choice) a w))
@@ -146,19 +146,19 @@ one_event tick w p = refl
 one_event (stranger name bytes) w p = absurd p
 
 -- a plain question is one turn
-pub plain_happens : (limits : Limits) (a : Asking) (t : Telling) (w after : World) → IsPlain a → IsTurn limits (ask a) t w after → Happens limits (ask a) t w after
+pub plain_happens : (limits : Capacity) (a : Asking) (t : Telling) (w after : World) → IsPlain a → IsTurn limits (ask a) t w after → Happens limits (ask a) t w after
 plain_happens limits a t w after p does = turn_happens limits (ask a) t w after (one_event a w p) does
 
 -- ---- the broker is opened again
 
 -- a restart is a reopening
-pub reopens : (limits : Limits) (w after : World) → IsReopened limits w after → Happens limits restart silent w after
+pub reopens : (limits : Capacity) (w after : World) → IsReopened limits w after → Happens limits restart silent w after
 reopens limits w after does =
     turn_happens limits restart (telling (read_in the_deeds (by_choice limits does.choice) restart w)) w after refl
     (record { choice = does.choice; good = refl; unspent = does.unspent; is = does.is; told = refl })
 
 -- before the commit of what is asked for
-pub stops_before : (limits : Limits) (choice : MemberChoice) (a : Asking) (w after : World) → is_bad_asking a w ≡ false
+pub stops_before : (limits : Capacity) (choice : MemberChoice) (a : Asking) (w after : World) → is_bad_asking a w ≡ false
     → is_opening_spent limits choice (before (by_choice limits choice) a w).now (before (by_choice limits choice) a w).broker.records ≡ false
     → after ≡ restarts (by_choice limits choice) (before (by_choice limits choice) a w) → Happens limits (stop_before a) silent w after
 stops_before limits choice a w after good unspent is =
@@ -166,7 +166,7 @@ stops_before limits choice a w after good unspent is =
     (record { choice = choice; good = good; unspent = unspent; is = is; told = refl })
 
 -- behind it
-pub stops : (limits : Limits) (a first : Asking) (t : Telling) (w mid after : World) → is_bad_asking a w ≡ false → Unrolls (stop_after a) w (ask first ∷ restart ∷ [])
+pub stops : (limits : Capacity) (a first : Asking) (t : Telling) (w mid after : World) → is_bad_asking a w ≡ false → Unrolls (stop_after a) w (ask first ∷ restart ∷ [])
     → IsTurn limits (ask first) t w mid → IsReopened limits mid after → Happens limits (stop_after a) silent w after
 stops limits a first t w mid after good unrolls does opens =
     let turns : List Turn = turn does.choice (ask first) ∷ [] in
@@ -191,13 +191,13 @@ two_events tick w p = refl
 two_events (stranger name bytes) w p = absurd p
 
 -- a stop behind a plain question is the question and a reopening
-pub stops_after : (limits : Limits) (a : Asking) (t : Telling) (w mid after : World) → IsPlain a → IsTurn limits (ask a) t w mid → IsReopened limits mid after
+pub stops_after : (limits : Capacity) (a : Asking) (t : Telling) (w mid after : World) → IsPlain a → IsTurn limits (ask a) t w mid → IsReopened limits mid after
     → Happens limits (stop_after a) silent w after
 stops_after limits a t w mid after p does opens = stops limits a a t w mid after does.good (two_events a w p) does opens
 
 -- ---- what a turn tells is what its event does
 
-one_telling : (limits : Limits) (choice : MemberChoice) (e : Event) (w : World) → telling (deeds_over limits (turn choice e ∷ []) w) ≡ telling (deeds_at (by_choice limits choice) e w)
+one_telling : (limits : Capacity) (choice : MemberChoice) (e : Event) (w : World) → telling (deeds_over limits (turn choice e ∷ []) w) ≡ telling (deeds_at (by_choice limits choice) e w)
 one_telling limits choice e w = ap telling (append-nil (deeds_at (by_choice limits choice) e w))
 
 nothing_read : (bad : Bool) → telling (cond bad [] [] ++ []) ≡ silent
@@ -205,7 +205,7 @@ nothing_read true = refl
 nothing_read false = refl
 
 -- what a turn tells is what its event tells
-pub turn_tells : (limits : Limits) (choice : MemberChoice) (e : Event) (w : World) → tells_in limits e (turn choice e ∷ []) w ≡ tells (by_choice limits choice) e w
+pub turn_tells : (limits : Capacity) (choice : MemberChoice) (e : Event) (w : World) → tells_in limits e (turn choice e ∷ []) w ≡ tells (by_choice limits choice) e w
 turn_tells limits choice (publisher client) w = nothing_read (is_bad (publisher client) w)
 turn_tells limits choice (receiver client window aliases) w = nothing_read (is_bad (receiver client window aliases) w)
 turn_tells limits choice (connect_end client clean) w = one_telling limits choice (connect_end client clean) w

@@ -2,7 +2,7 @@
 use Rattle.std.proofs.Common.{◌≡◌, ◌+◌, ℕ, suc, true, List, [], ◌∷◌, ◌++◌, length, Option, None, Some, IfErr, IfOk, append-nil, length-append, sym, ap, subst, ◌∙◌, arith, true≢false}
 use Rattle.std.specs.Prelude.{Result, Ok, Err}
 use Rattle.mqtt_keep.specs.declared.keeping.keep.Keep.{Ghosts}
-use Rattle.mqtt_rules.specs.declared.step.Limits.{Limits}
+use Rattle.mqtt_rules.specs.declared.step.Capacity.{Capacity}
 use Rattle.mqtt_rules.specs.spelling.Sending.{SendsWell}
 use Rattle.mqtt_script.specs.declared.event.Event.{Event}
 use Rattle.mqtt_script.specs.declared.event.Event.TheVariants.{Drain}
@@ -32,7 +32,7 @@ one_client : (e : Event) (a b : List ℕ) → e ≡ Drain a → e ≡ Drain b �
 one_client e a b is same = cc
 
 -- an event that passes is not bad there
-passed_is_good : (limits : Limits) (e : Event) (t : Telling) (w after : World) → Passes limits e t w after → IsBad e w → ⊥
+passed_is_good : (limits : Capacity) (e : Event) (t : Telling) (w after : World) → Passes limits e t w after → IsBad e w → ⊥
 passed_is_good limits e t w after (as_event x is h) (bad_as_event y same bad) =
     true≢false (sym bad ∙ (ap (λ (z : world.Event). is_bad z w) (sym (one_event (event_of e) x y is same)) ∙ h.good))
 passed_is_good limits e t w after (as_event x is h) (bad_as_drain client same bad) = not_some (event_of e) x (ap event_of same) is

@@ -10,7 +10,7 @@ use Rattle.mqtt_world_model.specs.model.World.{Event, Setting, Stranger, World, 
 use Rattle.mqtt_rules.specs.step.Laws.{AreWithin}
 use Rattle.mqtt_rules.specs.step.Piece.{call_by}
 use Rattle.mqtt_rules.specs.step.Step.{Call, NewLine}
-use Rattle.mqtt_rules.specs.declared.step.Limits.{Limits}
+use Rattle.mqtt_rules.specs.declared.step.Capacity.{Capacity}
 use Rattle.mqtt_world.specs.clients.Ends.{in_world as among_ends}
 use Rattle.mqtt_world_model.specs.single_steps.Unrolled.{AreAlike, AreAllAlike, HoldNoPacket, HoldsThese, IsDecided, IsFound, IsWhole, bytes_come}
 use Rattle.mqtt_world_model.proofs.single_steps_lemmas.Answered.{not_both, nothing_first}
@@ -30,7 +30,7 @@ use Rattle.mqtt_world.proofs.scene_lemmas.Heard.{asks_nothing, takes_if, tells_n
 use Rattle.mqtt_world.specs.world.Stages.{IsStanding, Staged, broker_of, world_at}
 use Rattle.mqtt_world.specs.world.Visits.{TakesPiece, TellsPiece, Welcomes}
 
-abbrev pub staged : {K : Type 0} → Played K → List Stranger → ℕ → Limits → Staged K
+abbrev pub staged : {K : Type 0} → Played K → List Stranger → ℕ → Capacity → Staged K
 staged s ss now limits = record { played = s; strangers = ss; now = now; limits = limits }
 
 abbrev pub comes_in : List ℕ → List ℕ → Event
@@ -49,7 +49,7 @@ same_asked (Some n) bytes given a = a.asks n
 -- ---- whom CONNECTs name
 
 -- of a stage that is taken apart: bytes may not come exactly if a CONNECT among them names an end
-pub any_named : {K : Type 0} (P : Played K) (ss : List Stranger) (now : ℕ) (limits : Limits) (s : Staged K) (name bytes : List ℕ) (names seen : List (List ℕ)) (bad : Bool)
+pub any_named : {K : Type 0} (P : Played K) (ss : List Stranger) (now : ℕ) (limits : Capacity) (s : Staged K) (name bytes : List ℕ) (names seen : List (List ℕ)) (bad : Bool)
     → staged P ss now limits ≡ s → are_bytes bytes ≡ true → NamesThese (held_of name ss ++ bytes) names → seen ≡ names
     → ((w : World) → bad ≡ is_end_among seen (among_ends P.ends w)) → bad ≡ is_bad_asking (stranger name bytes) (world_at s)
 any_named P ss now limits s name bytes names seen bad view said these same is =
@@ -67,7 +67,7 @@ is_none None h = refl
 is_none (Some x) h = let clash : true ≡ false = h in absurd cc
 
 -- what is seen of the strangers of a stage that is taken apart
-module _ {K : Type 0} (P : Played K) (ss : List Stranger) (now : ℕ) (limits : Limits) (s : Staged K) (view : staged P ss now limits ≡ s) (name text : List ℕ) (same : text ≡ name) where
+module _ {K : Type 0} (P : Played K) (ss : List Stranger) (now : ℕ) (limits : Capacity) (s : Staged K) (view : staged P ss now limits ≡ s) (name text : List ℕ) (same : text ≡ name) where
   seen_in : (has : Bool) → ((w : World) → has ≡ is_some (stranger_named text (among_strangers ss w))) → is_some (named name ss) ≡ has
   seen_in has found = ap (λ (n : List ℕ). is_some (named n ss)) (sym same) ∙ sym (found (world_of now ss P))
 
@@ -109,7 +109,7 @@ module _ {K : Type 0} (g : Ghosts K) (name : List ℕ) where
   }
 
   module _ (now : ℕ) (P N : Played K) (ss : List Stranger) (line : Option ℕ) where
-    first_welcomed : IsPlayable g P → AreWithin P.engine.running.limits → named name ss ≡ None → AreAlike name (world_of now ss P) → line ≡ next_line P.engine.running.broker
+    first_welcomed : IsPlayable g P → AreWithin P.engine.running.limits → named name ss ≡ None → AreAlike name (world_of now ss P) → line ≡ next_line P.engine.running.limits P.engine.running.broker
         → Calls g now NewLine P silent N
         → Welcomes g name (staged P ss now P.engine.running.limits) (staged N (ss ++ newcomer name line ∷ []) now P.engine.running.limits)
     first_welcomed playable within none alike line_is c = record {
@@ -158,8 +158,8 @@ module _ {K : Type 0} (g : Ghosts K) (name : List ℕ) where
             ∙ ap (λ (l : Option ℕ). record (calls (set x) NewLine w) { strangers = ss ++ newcomer name l ∷ [] }) line_is
 
   -- a stranger that comes first is put behind the others, with the line that the broker gave it, and is welcome
-  pub welcome_first : (now : ℕ) (limits : Limits) (s : Staged K) (P N : Played K) (ss all : List Stranger) (copy : List ℕ) (line : Option ℕ) → staged P ss now limits ≡ s
-      → IsStanding g s → named name ss ≡ None → AreAlike name (world_of now ss P) → line ≡ next_line P.engine.running.broker
+  pub welcome_first : (now : ℕ) (limits : Capacity) (s : Staged K) (P N : Played K) (ss all : List Stranger) (copy : List ℕ) (line : Option ℕ) → staged P ss now limits ≡ s
+      → IsStanding g s → named name ss ≡ None → AreAlike name (world_of now ss P) → line ≡ next_line P.engine.running.limits P.engine.running.broker
       → Calls g now NewLine P silent N → copy ≡ name → all ≡ ss ++ newcomer copy line ∷ [] → Welcomes g name s (staged N all now limits)
   welcome_first now limits s P N ss all copy line view standing none alike line_is c same is =
       let at : IsStanding g (staged P ss now limits) = subst (IsStanding g) (sym view) standing in
@@ -167,7 +167,7 @@ module _ {K : Type 0} (g : Ghosts K) (name : List ℕ) where
       let is_all : all ≡ ss ++ newcomer name line ∷ [] = is ∙ ap (λ (n : List ℕ). ss ++ newcomer n line ∷ []) same in
       subst (λ (x : Staged K). Welcomes g name x (staged N all now limits)) view
       (subst (λ (xs : List Stranger). Welcomes g name (staged P ss now limits) (staged N xs now limits)) (sym is_all)
-      (subst (λ (l : Limits). Welcomes g name (staged P ss now l) (staged N (ss ++ newcomer name line ∷ []) now l)) (sym at.limits)
+      (subst (λ (l : Capacity). Welcomes g name (staged P ss now l) (staged N (ss ++ newcomer name line ∷ []) now l)) (sym at.limits)
       (first_welcomed now P N ss line at.playable within none alike line_is c)))
 
 -- ---- a piece is one turn
@@ -240,7 +240,7 @@ module _ {K : Type 0} (g : Ghosts K) (name bytes : List ℕ) (now taken : ℕ) (
           piece_there P.engine.running.limits at.choice name piece s t w (world_of now new N) e alike c.next.one good (at.unspent ss)
           (at.done spells reached new came none ∙ ap (calls_if set (call_on s.number (s.held ++ piece))) (c.becomes w)) (at.told ss)
 
-  module _ (limits : Limits) (s : Staged K) (view : staged P ss now limits ≡ s) (standing : IsStanding g s) (there : is_some (named name s.strangers) ≡ true)
+  module _ (limits : Capacity) (s : Staged K) (view : staged P ss now limits ≡ s) (standing : IsStanding g s) (there : is_some (named name s.strangers) ≡ true)
       (alike : AreAlike name (world_at s)) (waits : first_of (held_of name s.strangers) ≡ Ok None) (line : Option ℕ) (line_is : line ≡ line_of (named name ss)) where
     piece_at : (t : Telling) (given : Option (List ℕ)) → Comes name bytes ss new taken given
         → Asks g now (call_on line (held_of name ss ++ take taken bytes)) P t N
@@ -251,7 +251,7 @@ module _ {K : Type 0} (g : Ghosts K) (name bytes : List ℕ) (now taken : ℕ) (
         λ x e. subst (λ (y : Staged K). is_some (named name y.strangers) ≡ true) (sym e) there in
         let within : AreWithin P.engine.running.limits = subst AreWithin at.limits at.within in
         subst (λ (x : Staged K). TakesPiece g name bytes x taken t (staged N new now limits)) view
-        (subst (λ (l : Limits). TakesPiece g name bytes (staged P ss now l) taken t (staged N new now l)) (sym at.limits)
+        (subst (λ (l : Capacity). TakesPiece g name bytes (staged P ss now l) taken t (staged N new now l)) (sym at.limits)
         (piece_taken line t at.playable within (its (staged P ss now limits) view)
         (subst (λ (y : Staged K). AreAlike name (world_at y)) (sym view) alike)
         (subst (λ (y : Staged K). first_of (held_of name y.strangers) ≡ Ok None) (sym view) waits) line_is given c a))
@@ -267,7 +267,7 @@ module _ {K : Type 0} (g : Ghosts K) (name bytes : List ℕ) (now taken : ℕ) (
     }
 
   -- nothing is whole
-  pub piece_held : (limits : Limits) (s : Staged K) → staged P ss now limits ≡ s → IsStanding g s → is_some (named name s.strangers) ≡ true
+  pub piece_held : (limits : Capacity) (s : Staged K) → staged P ss now limits ≡ s → IsStanding g s → is_some (named name s.strangers) ≡ true
       → AreAlike name (world_at s) → first_of (held_of name s.strangers) ≡ Ok None → (line : Option ℕ) → line ≡ line_of (named name ss)
       → (t : Telling) → Comes name bytes ss new taken None → N ≡ P
       → TellsPiece g name bytes s taken t t (staged N new now limits)
@@ -290,7 +290,7 @@ module _ {K : Type 0} (g : Ghosts K) (name bytes : List ℕ) (old mid new : Stag
     limits = p.limits ∙ w.limits;
     sound = λ sound. w.sound (p.sound sound);
     reached = λ sound reached.
-        subst (λ (l : Limits). IsReached l (broker_of mid) → IsReached l (broker_of new)) w.limits (p.reached sound) (w.reached (p.sound sound) reached);
+        subst (λ (l : Capacity). IsReached l (broker_of mid) → IsReached l (broker_of new)) w.limits (p.reached sound) (w.reached (p.sound sound) reached);
     within = p.within;
     next = subst (λ (held : List ℕ). IsNextPiece held (take taken bytes) (drop taken bytes)) w.same p.next;
     further = p.further;
@@ -298,7 +298,7 @@ module _ {K : Type 0} (g : Ghosts K) (name bytes : List ℕ) (old mid new : Stag
     turn = λ sound spells reached knowing good.
         let was = p.sound sound in
         w.turn was spells reached knowing (take taken bytes) t (world_at new) good
-        (subst (λ (l : Limits). SpellsAll l → IsReached l (broker_of mid) → HasKnowingEnds (world_at mid) → is_bad (comes_in name (take taken bytes)) (world_at mid) ≡ false
+        (subst (λ (l : Capacity). SpellsAll l → IsReached l (broker_of mid) → HasKnowingEnds (world_at mid) → is_bad (comes_in name (take taken bytes)) (world_at mid) ≡ false
         → IsTurn l (comes_in name (take taken bytes)) t (world_at mid) (world_at new)) w.limits (p.turn sound)
         spells (w.reached was reached) (w.knowing was spells reached knowing) (w.good was spells reached knowing (take taken bytes) good));
   }

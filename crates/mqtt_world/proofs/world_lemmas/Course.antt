@@ -15,7 +15,7 @@ use Rattle.mqtt_world.proofs.script_drains_lemmas.Done.{delivers_once, script_em
 use Rattle.mqtt_world.proofs.script_laws_lemmas.Fronts.{script_refuses}
 use Rattle.mqtt_world.proofs.script_laws_lemmas.Scripts.{runs_join}
 use Rattle.mqtt_rules.specs.step.Laws.{AreWithin}
-use Rattle.mqtt_rules.specs.declared.step.Limits.{Limits}
+use Rattle.mqtt_rules.specs.declared.step.Capacity.{Capacity}
 use Rattle.mqtt_world.specs.scene.Events.{IsReached}
 use Rattle.mqtt_world.specs.scene.Halting.{fault_of}
 use Rattle.mqtt_world.specs.world.Stages.{IsSoundAt, IsStanding, PlaysDrain, Staged, broker_of, world_at}
@@ -49,7 +49,7 @@ module _ {K : Type 0} (g : Ghosts K) where
 
   reached_on : (es : List Event) (old : Staged K) (ts : List Telling) (new : Staged K) → Runs g es old ts new → IsSoundAt g new
       → IsReached old.limits (broker_of old) → HasKnowingEnds (world_at old) → IsReached new.limits (broker_of new)
-  reached_on es old ts new r sound reached knowing = subst (λ (l : Limits). IsReached l (broker_of new)) (sym r.limits) (r.reached sound reached knowing)
+  reached_on es old ts new r sound reached knowing = subst (λ (l : Capacity). IsReached l (broker_of new)) (sym r.limits) (r.reached sound reached knowing)
 
   -- the ends know what they were told by what ran
   knowing_on : (es : List Event) (old : Staged K) (ts : List Telling) (new : Staged K) → Runs g es old ts new → IsSoundAt g new
@@ -63,11 +63,11 @@ module _ {K : Type 0} (g : Ghosts K) where
     limits = b.limits ∙ a.limits;
     sound = λ sound. a.sound (b.sound sound);
     reached = λ sound reached knowing.
-        subst (λ (l : Limits). IsReached l (broker_of new)) a.limits
+        subst (λ (l : Capacity). IsReached l (broker_of new)) a.limits
         (b.reached sound (reached_on es old ts mid a (b.sound sound) reached knowing) (knowing_on es old ts mid a (b.sound sound) reached knowing));
     runs = λ sound reached knowing.
         runs_join old.limits es more ts us (world_at old) (world_at mid) (world_at new) (a.runs (b.sound sound) reached knowing)
-        (subst (λ (l : Limits). RunsTo l more us (world_at mid) (world_at new)) a.limits
+        (subst (λ (l : Capacity). RunsTo l more us (world_at mid) (world_at new)) a.limits
         (b.runs sound (reached_on es old ts mid a (b.sound sound) reached knowing) (knowing_on es old ts mid a (b.sound sound) reached knowing)));
   }
 
@@ -174,11 +174,11 @@ module _ {K : Type 0} (g : Ghosts K) where
   came_on : (start : World) (es more : List Event) (us : List Telling) (s n : Staged K) → IsSoundAt g n → Came start es s → Runs g more s us n
       → Came start (es ++ more) n
   came_on start es more us s n sound c r = record {
-    within = subst (λ (l : Limits). AreWithin l) (sym r.limits) c.within;
+    within = subst (λ (l : Capacity). AreWithin l) (sym r.limits) c.within;
     reached = reached_on more s us n r sound c.reached c.knowing;
     knowing = knowing_on more s us n r sound c.reached c.knowing;
     tells = c.tells ++ us;
-    runs = subst (λ (l : Limits). RunsTo l (es ++ more) (c.tells ++ us) start (world_at n)) (sym r.limits)
+    runs = subst (λ (l : Capacity). RunsTo l (es ++ more) (c.tells ++ us) start (world_at n)) (sym r.limits)
         (runs_join s.limits es more c.tells us start (world_at s) (world_at n) c.runs (r.runs sound c.reached c.knowing));
   }
 

@@ -8,7 +8,7 @@ use Rattle.mqtt_world_model.specs.model.World.{Stranger, World, is_end, publishe
 use Rattle.mqtt_script.specs.declared.event.Event.{Event}
 use Rattle.mqtt_broker.specs.engine.Serving.{Serving}
 use Rattle.mqtt_rules.specs.step.State.{session_named}
-use Rattle.mqtt_rules.specs.declared.step.Limits.{Limits}
+use Rattle.mqtt_rules.specs.declared.step.Capacity.{Capacity}
 use Rattle.mqtt_world.specs.clients.Ends.{Ends}
 use Rattle.mqtt_world.specs.scene.Events.{played, world_of}
 use Rattle.mqtt_world.specs.scene.Scenes.{Played}
@@ -16,7 +16,7 @@ use Rattle.mqtt_world.specs.world.Stages.{Staged, world_at}
 use Rattle.mqtt_world.specs.world.Worlds.{is_publish_of, queue_in, sent_in}
 
 -- a stage that is taken apart, and its scene too
-pub seen_from : {K : Type 0} (P : World → Type 0) (E : Serving K) (O : Ends) (S : Played K) (ss : List Stranger) (now : ℕ) (limits : Limits) (s : Staged K)
+pub seen_from : {K : Type 0} (P : World → Type 0) (E : Serving K) (O : Ends) (S : Played K) (ss : List Stranger) (now : ℕ) (limits : Capacity) (s : Staged K)
     → played E O ≡ S → record { played = S; strangers = ss; now = now; limits = limits } ≡ s → P (world_of now ss (played E O)) → P (world_at s)
 seen_from {K} P E O S ss now limits s scene stage h =
     subst (λ (x : Staged K). P (world_at x)) stage (subst (λ (x : Played K). P (world_of now ss x)) scene h)

@@ -15,7 +15,7 @@ use Rattle.mqtt_script.specs.declared.event.Event.TheVariants.{StopAfter, Strang
 use Rattle.mqtt_world.specs.script_laws.Scripted as scripted
 use Rattle.mqtt_world.specs.script_laws.Scripted.{asking_of, event_of}
 use Rattle.mqtt_world.specs.script_laws.Turns.{IsPlain}
-use Rattle.mqtt_rules.specs.declared.step.Limits.{Limits}
+use Rattle.mqtt_rules.specs.declared.step.Capacity.{Capacity}
 use Rattle.mqtt_world.specs.declared.scene.over.Over.{Over}
 use Rattle.mqtt_world.specs.scene.Playing.{DoesIf, IsOfEnds}
 use Rattle.mqtt_world.specs.scene.Scenes.{Played}
@@ -58,7 +58,7 @@ plain_askings (asking.Stranger name bytes) n = absurd (n name bytes refl)
 
 -- ---- on the stage
 
-module _ {K : Type 0} (g : Ghosts K) (S P : Played K) (ss : List world.Stranger) (now : ℕ) (limits : Limits) (s : Staged K) where
+module _ {K : Type 0} (g : Ghosts K) (S P : Played K) (ss : List world.Stranger) (now : ℕ) (limits : Capacity) (s : Staged K) where
   plays_by : (o : Option world.Event) (t : Option Telling) → staged S ss now limits ≡ s → IsStanding g s → DoesIf g now o S t P
       → PlaysIf g o s t (staged P ss now limits)
   plays_by None t view stands h = (h.0, ap (λ (x : Played K). staged x ss now limits) h.1 ∙ view)

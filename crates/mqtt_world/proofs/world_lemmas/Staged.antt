@@ -8,7 +8,7 @@ use Rattle.mqtt_broker.specs.engine.Serving.{Serving}
 use Rattle.mqtt_rules.specs.step.Laws.{AreWithin}
 use Rattle.mqtt_rules.specs.step.State.{later}
 use Rattle.mqtt_rules.specs.step.Step.{is_opening_spent}
-use Rattle.mqtt_rules.specs.declared.step.Limits.{Limits}
+use Rattle.mqtt_rules.specs.declared.step.Capacity.{Capacity}
 use Rattle.mqtt_world.specs.declared.scene.over.Over.{Over}
 use Rattle.mqtt_world.specs.script_laws.Scripted.{IsBadEvent}
 use Rattle.mqtt_world.specs.script_laws.Turns.{IsPlain, IsReopened, by_choice}
@@ -21,7 +21,7 @@ use Rattle.mqtt_world.specs.scene.Stopping.{IsTakenOff, TakesOff}
 use Rattle.mqtt_world.proofs.scene_lemmas.Eventful.{any_choice}
 use Rattle.mqtt_world.proofs.world_lemmas.Stopped.{reached_again, reopened, stops_behind}
 
-abbrev pub staged : {K : Type 0} → Played K → List Stranger → ℕ → Limits → Staged K
+abbrev pub staged : {K : Type 0} → Played K → List Stranger → ℕ → Capacity → Staged K
 staged s strangers now limits = record { played = s; strangers = strangers; now = now; limits = limits }
 
 -- if one thing leads to another, it does so of whatever was answered
@@ -37,16 +37,16 @@ ok_is {X} {E} P r x is h = subst (λ (y : Result X E). IfOk y P) is h
 
 module _ {K : Type 0} (g : Ghosts K) where
   -- a stage that can go on has a scene that can
-  pub playable_in : (S : Played K) (ss : List Stranger) (now : ℕ) (limits : Limits) (s : Staged K) → staged S ss now limits ≡ s
+  pub playable_in : (S : Played K) (ss : List Stranger) (now : ℕ) (limits : Capacity) (s : Staged K) → staged S ss now limits ≡ s
       → IsStanding g s → IsPlayable g S
   playable_in S ss now limits s view stands = (subst (IsStanding g) (sym view) stands).playable
 
   -- a stage that can go on has limits within those of the tables
-  pub within_in : (S : Played K) (ss : List Stranger) (now : ℕ) (limits : Limits) (s : Staged K) → staged S ss now limits ≡ s
+  pub within_in : (S : Played K) (ss : List Stranger) (now : ℕ) (limits : Capacity) (s : Staged K) → staged S ss now limits ≡ s
       → IsStanding g s → AreWithin limits
   within_in S ss now limits s view stands = (subst (IsStanding g) (sym view) stands).within
 
-  plays : (e : Event) (S P : Played K) (ss : List Stranger) (now : ℕ) (limits : Limits) (t : Option Telling)
+  plays : (e : Event) (S P : Played K) (ss : List Stranger) (now : ℕ) (limits : Capacity) (t : Option Telling)
       → IsStanding g (staged S ss now limits) → Does g now e S t P → Plays g e (staged S ss now limits) t (staged P ss now limits)
   plays e S P ss now limits t stands does =
       let here : limits ≡ S.engine.running.limits = stands.limits in
@@ -55,22 +55,22 @@ module _ {K : Type 0} (g : Ghosts K) where
         limits = refl;
         sound = does.sound;
         reached = λ sound reached.
-            subst (λ (l : Limits). IsReached l P.engine.running.broker) (sym here)
-            (does.reached sound (subst (λ (l : Limits). IsReached l S.engine.running.broker) here reached));
+            subst (λ (l : Capacity). IsReached l P.engine.running.broker) (sym here)
+            (does.reached sound (subst (λ (l : Capacity). IsReached l S.engine.running.broker) here reached));
         done = λ sound spells reached knowing.
-            subst (λ (l : Limits). IsDone l e t (world_of now ss S) (world_of now ss P)) (sym here)
-            (does.done sound (subst SpellsAll here spells) (subst (λ (l : Limits). IsReached l S.engine.running.broker) here reached) ss knowing);
+            subst (λ (l : Capacity). IsDone l e t (world_of now ss S) (world_of now ss P)) (sym here)
+            (does.done sound (subst SpellsAll here spells) (subst (λ (l : Capacity). IsReached l S.engine.running.broker) here reached) ss knowing);
       }
 
   -- what an event makes of the scene it makes of the stage, whose strangers and moment it leaves alone
-  pub plays_in : (e : Event) (S P : Played K) (ss : List Stranger) (now : ℕ) (limits : Limits) (s : Staged K) (t : Option Telling)
+  pub plays_in : (e : Event) (S P : Played K) (ss : List Stranger) (now : ℕ) (limits : Capacity) (s : Staged K) (t : Option Telling)
       → staged S ss now limits ≡ s → IsStanding g s → Does g now e S t P → Plays g e s t (staged P ss now limits)
   plays_in e S P ss now limits s t view stands does =
       subst (λ (x : Staged K). Plays g e x t (staged P ss now limits)) view
       (plays e S P ss now limits t (subst (IsStanding g) (sym view) stands) does)
 
   -- whatever is answered
-  pub all_play : (e : Event) (S P : Played K) (ss : List Stranger) (now : ℕ) (limits : Limits) (s : Staged K)
+  pub all_play : (e : Event) (S P : Played K) (ss : List Stranger) (now : ℕ) (limits : Capacity) (s : Staged K)
       (r : Result (Option Telling) Over) → staged S ss now limits ≡ s → IsStanding g s → IfOk r (λ t. Does g now e S t P)
       → IfOk r (λ t. Plays g e s t (staged P ss now limits))
   all_play e S P ss now limits s r view stands h =
@@ -79,7 +79,7 @@ module _ {K : Type 0} (g : Ghosts K) where
 
   -- ---- time passes
 
-  clock_plays : (wait : ℕ) (S : Played K) (ss : List Stranger) (now after : ℕ) (limits : Limits) → IsStanding g (staged S ss now limits)
+  clock_plays : (wait : ℕ) (S : Played K) (ss : List Stranger) (now after : ℕ) (limits : Capacity) → IsStanding g (staged S ss now limits)
       → after ≡ later now wait → Plays g (clock wait) (staged S ss now limits) (Some silent) (staged S ss after limits)
   clock_plays wait S ss now after limits stands is = record {
     standing = record { playable = stands.playable; limits = stands.limits; within = stands.within };
@@ -91,7 +91,7 @@ module _ {K : Type 0} (g : Ghosts K) where
   }
 
   -- if time passes, the moment is later, nothing else changes, and nothing is told
-  pub clock_plays_in : (wait : ℕ) (S : Played K) (ss : List Stranger) (now after : ℕ) (limits : Limits) (s : Staged K) (t : Telling)
+  pub clock_plays_in : (wait : ℕ) (S : Played K) (ss : List Stranger) (now after : ℕ) (limits : Capacity) (s : Staged K) (t : Telling)
       → staged S ss now limits ≡ s → IsStanding g s → after ≡ later now wait → t ≡ silent
       → Plays g (clock wait) s (Some t) (staged S ss after limits)
   clock_plays_in wait S ss now after limits s t view stands is told =
@@ -102,7 +102,7 @@ module _ {K : Type 0} (g : Ghosts K) where
   -- ---- the broker is opened again
 
   -- if the scene's broker is opened again and strangers have no lines, so is the stage's, and nothing is told
-  pub restages : (S P : Played K) (ss rs : List Stranger) (now : ℕ) (limits : Limits) (s : Staged K) (t : Telling)
+  pub restages : (S P : Played K) (ss rs : List Stranger) (now : ℕ) (limits : Capacity) (s : Staged K) (t : Telling)
       → staged S ss now limits ≡ s → Reopens g limits now S P → rs ≡ map unlinked ss → t ≡ silent
       → Restages g s (Some t) (staged P rs now limits)
   restages S P ss rs now limits s t view again is told =
@@ -155,12 +155,12 @@ module _ {K : Type 0} (g : Ghosts K) where
         limits = r.limits ∙ asked.limits;
         sound = λ sound. asked.sound (r.reopens.sound sound);
         reached = λ sound reached.
-            subst (λ (l : Limits). IsReached l (broker_of new)) asked.limits
+            subst (λ (l : Capacity). IsReached l (broker_of new)) asked.limits
             (reached_at mid new t r sound
-            (subst (λ (l : Limits). IsReached l (broker_of mid)) (sym asked.limits) (asked.reached (r.reopens.sound sound) reached)));
+            (subst (λ (l : Capacity). IsReached l (broker_of mid)) (sym asked.limits) (asked.reached (r.reopens.sound sound) reached)));
         done = λ sound spells reached knowing.
             stops_behind old.limits a u (world_at old) (world_at mid) (world_at new) plain (asked.done (r.reopens.sound sound) spells reached knowing)
-            (subst (λ (l : Limits). IsReopened l (world_at mid) (world_at new)) asked.limits (reopened_at mid new t r sound));
+            (subst (λ (l : Capacity). IsReopened l (world_at mid) (world_at new)) asked.limits (reopened_at mid new t r sound));
       })
 
   -- what can't be asked can't be stopped after
@@ -234,7 +234,7 @@ module _ {K : Type 0} (g : Ghosts K) where
   -- ---- whatever is answered
 
   -- if the opening answered a scene, the stage is opened again with it
-  pub all_restages : (S P : Played K) (ss rs : List Stranger) (now : ℕ) (limits : Limits) (s : Staged K) (r : Result (Played K) Over) (t : Telling)
+  pub all_restages : (S P : Played K) (ss rs : List Stranger) (now : ℕ) (limits : Capacity) (s : Staged K) (r : Result (Played K) Over) (t : Telling)
       → staged S ss now limits ≡ s → r ≡ Ok P → IfOk r (λ x. Reopens g limits now S x) → rs ≡ map unlinked ss → t ≡ silent
       → Restages g s (Some t) (staged P rs now limits)
   all_restages S P ss rs now limits s r t view ok h is told =

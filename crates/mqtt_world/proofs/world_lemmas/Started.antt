@@ -17,7 +17,7 @@ use Rattle.mqtt_rules.proofs.step_lemmas.contents.LawfulContents.{lawful_content
 use Rattle.mqtt_rules.specs.step.Laws.{AreWithin}
 use Rattle.mqtt_rules.specs.step.State.{Broker, MemberChoice}
 use Rattle.mqtt_rules.specs.step.Step.{opened}
-use Rattle.mqtt_rules.specs.declared.step.Limits.{Limits}
+use Rattle.mqtt_rules.specs.declared.step.Capacity.{Capacity}
 use Rattle.mqtt_world.specs.clients.Ends.{Ends}
 use Rattle.mqtt_world.specs.scene.Events.{IsReached, opens, world_of}
 use Rattle.mqtt_world.specs.scene.Openings.{Begins, Opens, no_ends}
@@ -32,7 +32,7 @@ use Rattle.mqtt_world.proofs.world_lemmas.Staged.{staged}
 
 -- ---- what is stored names its topics, so ends know what they will be told
 
-knowing_first : (limits : Limits) (choice : MemberChoice) (now : ℕ) (r : Records) → NamesTopics (opened limits choice now r)
+knowing_first : (limits : Capacity) (choice : MemberChoice) (now : ℕ) (r : Records) → NamesTopics (opened limits choice now r)
     → HasKnowingEnds (opened_world limits choice now r)
 knowing_first limits choice now r named = record {
   takes = λ client. 0;
@@ -48,7 +48,7 @@ knowing_first limits choice now r named = record {
 
 -- ---- a beginning
 
-module _ {K : Type 0} (g : Ghosts K) (limits : Limits) (r : Records) (s : Played K) where
+module _ {K : Type 0} (g : Ghosts K) (limits : Capacity) (r : Records) (s : Played K) where
   world_began : (o : Opens g limits 0 r s) → s.ends ≡ no_ends → g.is_sound s.engine.running.keep → world_of 0 [] s ≡ opened_world limits o.choice 0 r
   world_began o none sound =
       let at : Broker → Ends → World = λ b e. record { broker = b; now = 0; publishers = e.publishers; receivers = e.receivers; strangers = [] } in
@@ -67,10 +67,10 @@ module _ {K : Type 0} (g : Ghosts K) (limits : Limits) (r : Records) (s : Played
       })
 
 -- nobody is there where a broker was opened
-alone_at_first : (limits : Limits) (choice : MemberChoice) (now : ℕ) (r : Records) → IsUninhabited (opened_world limits choice now r)
+alone_at_first : (limits : Capacity) (choice : MemberChoice) (now : ℕ) (r : Records) → IsUninhabited (opened_world limits choice now r)
 alone_at_first limits choice now r = record { publishers = refl; receivers = refl; strangers = refl }
 
-module _ {K : Type 0} (g : Ghosts K) (limits : Limits) (keep : K) (s : Played K) where
+module _ {K : Type 0} (g : Ghosts K) (limits : Capacity) (keep : K) (s : Played K) where
   -- it can go on
   pub begun_stands : AreWithin limits → (b : Begins g limits 0 keep s) → IsStanding g (staged s [] 0 limits)
   begun_stands within b = record { playable = b.opens.playable; limits = sym b.opens.limits_are; within = within }

@@ -11,7 +11,7 @@ use Rattle.mqtt_world_laws.specs.acceptance.Spending.{run_spends}
 use Rattle.mqtt_world_laws.proofs.receiver_lemmas.drains.DrainRuns.{run_append}
 use Rattle.mqtt_rules.specs.step.State.{Broker}
 use Rattle.mqtt_rules.specs.step.Step.{opened}
-use Rattle.mqtt_rules.specs.declared.step.Limits.{Limits}
+use Rattle.mqtt_rules.specs.declared.step.Capacity.{Capacity}
 use Rattle.mqtt_world.specs.clients.Ends.{Ends}
 use Rattle.mqtt_world.specs.script_laws.Scripted.{Happens}
 use Rattle.mqtt_world.specs.script_laws.Turns.{IsPlain, IsReopened}
@@ -40,7 +40,7 @@ and_a_restart tick w es p is = is
 and_a_restart (stranger name bytes) w es p is = absurd p
 
 -- what was asked happened, and then the broker was opened again
-pub stops_behind : (limits : Limits) (a : Asking) (t : Telling) (w mid after : World) → IsPlain a → Happens limits (ask a) t w mid
+pub stops_behind : (limits : Capacity) (a : Asking) (t : Telling) (w mid after : World) → IsPlain a → Happens limits (ask a) t w mid
     → IsReopened limits mid after → Happens limits (stop_after a) silent w after
 stops_behind limits a t w mid after p does opens =
     let last : List Turn = turn opens.choice restart ∷ [] in
@@ -59,7 +59,7 @@ stops_behind limits a t w mid after p does opens =
 
 -- ---- of a broker with its ends
 
-module _ {K : Type 0} (g : Ghosts K) (now : ℕ) (limits : Limits) (old new : Played K) where
+module _ {K : Type 0} (g : Ghosts K) (now : ℕ) (limits : Capacity) (old new : Played K) where
   -- if the old broker can come to be, so can the one that is opened again on a sound device
   pub reached_again : Reopens g limits now old new → g.is_sound new.engine.running.keep
       → IsReached limits old.engine.running.broker → IsReached limits new.engine.running.broker

@@ -5,7 +5,7 @@ use Rattle.std.specs.Prelude.{IfOk, Result, is_some}
 use Rattle.mqtt_keep.specs.declared.keeping.keep.Keep.{Ghosts}
 use Rattle.mqtt_world_model.specs.model.Tellings.{Telling, silent}
 use Rattle.mqtt_world_model.specs.model.World.{Event, Setting, Stranger, World, happens, is_bad, is_bad_asking, step, stop_after, stop_before, stranger}
-use Rattle.mqtt_rules.specs.declared.step.Limits.{Limits}
+use Rattle.mqtt_rules.specs.declared.step.Capacity.{Capacity}
 use Rattle.mqtt_world_model.specs.single_steps.Unrolled.{IsDecided, IsWhole, bytes_come}
 use Rattle.mqtt_world.specs.script_laws.Scripted.{Happens}
 use Rattle.mqtt_world.specs.script_laws.Turns.{IsReopened, IsTurn, both_tell, by_choice}
@@ -38,17 +38,17 @@ pub record ComesOn {K : Type 0} (g : Ghosts K) (name bytes : List ℕ) (old : St
 module _ {K : Type 0} (g : Ghosts K) (name : List ℕ) where
   -- ---- a piece, at equal limits
 
-  turn_at : (rest : List ℕ) (taken : ℕ) (t : Telling) (mid new : Staged K) (limits : Limits) → mid.limits ≡ limits
+  turn_at : (rest : List ℕ) (taken : ℕ) (t : Telling) (mid new : Staged K) (limits : Capacity) → mid.limits ≡ limits
       → TakesPiece g name rest mid taken t new → IsSoundAt g new → SpellsAll limits → IsReached limits (broker_of mid) → HasKnowingEnds (world_at mid)
       → is_bad (comes_in name (take taken rest)) (world_at mid) ≡ false
       → IsTurn limits (comes_in name (take taken rest)) t (world_at mid) (world_at new)
   turn_at rest taken t mid new limits is p sound =
-      subst (λ (l : Limits). SpellsAll l → IsReached l (broker_of mid) → HasKnowingEnds (world_at mid) → is_bad (comes_in name (take taken rest)) (world_at mid) ≡ false
+      subst (λ (l : Capacity). SpellsAll l → IsReached l (broker_of mid) → HasKnowingEnds (world_at mid) → is_bad (comes_in name (take taken rest)) (world_at mid) ≡ false
       → IsTurn l (comes_in name (take taken rest)) t (world_at mid) (world_at new)) is (p.turn sound)
 
-  reached_at : (rest : List ℕ) (taken : ℕ) (t : Telling) (mid new : Staged K) (limits : Limits) → mid.limits ≡ limits
+  reached_at : (rest : List ℕ) (taken : ℕ) (t : Telling) (mid new : Staged K) (limits : Capacity) → mid.limits ≡ limits
       → TakesPiece g name rest mid taken t new → IsSoundAt g new → IsReached limits (broker_of mid) → IsReached limits (broker_of new)
-  reached_at rest taken t mid new limits is p sound = subst (λ (l : Limits). IsReached l (broker_of mid) → IsReached l (broker_of new)) is (p.reached sound)
+  reached_at rest taken t mid new limits is p sound = subst (λ (l : Capacity). IsReached l (broker_of mid) → IsReached l (broker_of new)) is (p.reached sound)
 
   -- ---- before the first
 
@@ -194,7 +194,7 @@ module _ {K : Type 0} (g : Ghosts K) (name : List ℕ) where
   }
 
   -- it leaves a stranger that comes first behind the others, without a line
-  pub named_first : (s : Staged K) (P : Played K) (ss all : List Stranger) (copy : List ℕ) (now : ℕ) (limits : Limits) → staged P ss now limits ≡ s → IsStanding g s
+  pub named_first : (s : Staged K) (P : Played K) (ss all : List Stranger) (copy : List ℕ) (now : ℕ) (limits : Capacity) → staged P ss now limits ≡ s → IsStanding g s
       → named name ss ≡ None → copy ≡ name → all ≡ ss ++ newcomer copy None ∷ [] → (bytes : List ℕ) → is_bad_asking (stranger name bytes) (world_at s) ≡ false
       → StopsAt g (stop_before (stranger name bytes)) s (staged P all now limits)
   named_first s P ss all copy now limits view standing none same is bytes good =
@@ -222,11 +222,11 @@ module _ {K : Type 0} (g : Ghosts K) (e : Event) where
         limits = r.limits ∙ s.limits;
         sound = λ sound. s.sound (r.reopens.sound sound);
         reached = λ sound reached.
-            subst (λ (l : Limits). IsReached l (broker_of new)) s.limits
-            (reached_again g mid new t r sound (subst (λ (l : Limits). IsReached l (broker_of mid)) (sym s.limits) (s.reached (r.reopens.sound sound) reached)));
+            subst (λ (l : Capacity). IsReached l (broker_of new)) s.limits
+            (reached_again g mid new t r sound (subst (λ (l : Capacity). IsReached l (broker_of mid)) (sym s.limits) (s.reached (r.reopens.sound sound) reached)));
         done = λ sound spells reached knowing.
             s.done (r.reopens.sound sound) spells reached knowing (world_at new)
-            (subst (λ (l : Limits). IsReopened l (world_at mid) (world_at new)) s.limits (reopened_at g mid new t r sound));
+            (subst (λ (l : Capacity). IsReopened l (world_at mid) (world_at new)) s.limits (reopened_at g mid new t r sound));
       })
 
   -- a stop, and the broker opened again behind it, are the event that stops, whatever is answered

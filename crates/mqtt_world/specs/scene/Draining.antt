@@ -4,7 +4,7 @@ use Rattle.mqtt_keep.specs.declared.keeping.keep.Keep.{Ghosts}
 use Rattle.mqtt_world_model.specs.model.Tellings.{Telling}
 use Rattle.mqtt_world_model.specs.model.World.{Event, Stranger, World, ask, receiver_named, to_broker, to_end}
 use Rattle.mqtt_world_laws.specs.receiver.Drains.{downs_by, is_bad_drain, is_over, ups_by}
-use Rattle.mqtt_rules.specs.declared.step.Limits.{Limits}
+use Rattle.mqtt_rules.specs.declared.step.Capacity.{Capacity}
 use Rattle.mqtt_world.specs.script_laws.Drains.{DrainHappens, IsRound, MakesRounds, Repeats}
 use Rattle.mqtt_world.specs.script_laws.Turns.{IsTurn, both_tell}
 use Rattle.mqtt_world_laws.specs.knowing.Knowing.{HasKnowingEnds}
@@ -14,32 +14,32 @@ use Rattle.mqtt_world.specs.scene.Scenes.{IsPlayable, Played, WasSound}
 -- ---- what happens in a drain, tells something, and leads from one world to another
 
 -- one turn of an event, and so many
-abbrev pub once : Event → Limits → Telling → World → World → Type 0
+abbrev pub once : Event → Capacity → Telling → World → World → Type 0
 once e limits t w after = IsTurn limits e t w after
 
-abbrev pub so_often : ℕ → Event → Limits → Telling → World → World → Type 0
+abbrev pub so_often : ℕ → Event → Capacity → Telling → World → World → Type 0
 so_often times e limits t w after = Repeats limits times e t w after
 
 -- a receiver reads all packets that are under way to it, and the broker all from it
-abbrev pub reads_all : List ℕ → Limits → Telling → World → World → Type 0
+abbrev pub reads_all : List ℕ → Capacity → Telling → World → World → Type 0
 reads_all client limits t w after = Repeats limits (downs_by (receiver_named client w)) (to_end client) t w after
 
-abbrev pub answers_all : List ℕ → Limits → Telling → World → World → Type 0
+abbrev pub answers_all : List ℕ → Capacity → Telling → World → World → Type 0
 answers_all client limits t w after = Repeats limits (ups_by (receiver_named client w)) (ask (to_broker client)) t w after
 
 -- one round, so many, and so many after which the drain is over
-abbrev pub one_round : List ℕ → Limits → Telling → World → World → Type 0
+abbrev pub one_round : List ℕ → Capacity → Telling → World → World → Type 0
 one_round client limits t w after = IsRound limits client t w after
 
-abbrev pub so_many_rounds : List ℕ → ℕ → Limits → Telling → World → World → Type 0
+abbrev pub so_many_rounds : List ℕ → ℕ → Capacity → Telling → World → World → Type 0
 so_many_rounds client rounds limits t w after = MakesRounds limits client rounds t w after
 
-abbrev pub all_rounds : List ℕ → ℕ → Limits → Telling → World → World → Type 0
+abbrev pub all_rounds : List ℕ → ℕ → Capacity → Telling → World → World → Type 0
 all_rounds client rounds limits t w after = MakesRounds limits client rounds t w after × (is_over client after ≡ true)
 
 -- at a moment this happens, whatever strangers there are, over a store whose device is sound after it; and what it tells is told
 -- behind what was told before
-pub record GoesOn {K : Type 0} (g : Ghosts K) (now : ℕ) (leads : Limits → Telling → World → World → Type 0) (old : Played K) (before after : Telling)
+pub record GoesOn {K : Type 0} (g : Ghosts K) (now : ℕ) (leads : Capacity → Telling → World → World → Type 0) (old : Played K) (before after : Telling)
     (new : Played K) : Type 0 where
   pub playable : IsPlayable g new
   pub limits : new.engine.running.limits ≡ old.engine.running.limits
@@ -55,7 +55,7 @@ pub record GoesOn {K : Type 0} (g : Ghosts K) (now : ℕ) (leads : Limits → Te
 -- ---- a drain
 
 -- what it tells, and its rounds; or it can't happen there, and nothing changed
-abbrev pub IsDrainDone : Limits → List ℕ → Option (Telling × ℕ) → World → World → Type 0
+abbrev pub IsDrainDone : Capacity → List ℕ → Option (Telling × ℕ) → World → World → Type 0
 IsDrainDone limits client None w after = (is_bad_drain client w ≡ true) × (after ≡ w)
 IsDrainDone limits client (Some x) w after = (h : DrainHappens limits client x.0 w after) × (h.rounds ≡ x.1)
 

@@ -11,7 +11,7 @@ use Rattle.mqtt_rules.specs.step.Contents.{IsTaken}
 use Rattle.mqtt_rules.specs.step.Piece.{code_of}
 use Rattle.mqtt_rules.specs.step.State.{Broker, MemberChoice}
 use Rattle.mqtt_rules.specs.step.Step.{Call, NewLine, Input, BadInput, Lost, Pump, Tick, is_opening_spent, is_step_spent, opened, stepped, told}
-use Rattle.mqtt_rules.specs.declared.step.Limits.{Limits}
+use Rattle.mqtt_rules.specs.declared.step.Capacity.{Capacity}
 use Rattle.mqtt_broker.specs.engine.Serving.{Serving}
 use Rattle.mqtt_world.specs.clients.Ends.{Ends}
 use Rattle.mqtt_world.specs.clients.Telling.{AreSpelled}
@@ -31,7 +31,7 @@ TakesPacket (Lost line) = ⊤
 TakesPacket (Pump line) = ⊤
 TakesPacket Tick = ⊤
 
-pub data IsReached (limits : Limits) : Broker → Type 0 where
+pub data IsReached (limits : Capacity) : Broker → Type 0 where
   opens : (choice : MemberChoice) (now : ℕ) (r : Records) → IsLawful r → HaveSentPhases r → is_opening_spent limits choice now r ≡ false
       → IsReached limits (opened limits choice now r)
   opens_again : (choice : MemberChoice) (now : ℕ) (b : Broker) → IsReached limits b
@@ -40,7 +40,7 @@ pub data IsReached (limits : Limits) : Broker → Type 0 where
       → is_step_spent limits choice now call b ≡ false → IsReached limits (stepped limits choice now call b)
 
 -- whatever such a broker sends has a spelling, so that its bytes are read as it (2.1)
-abbrev pub SpellsAll : Limits → Type 0
+abbrev pub SpellsAll : Capacity → Type 0
 SpellsAll limits =
     (choice : MemberChoice) (now : ℕ) (call : Call) (b : Broker) → IsReached limits b → TakesPacket call
     → is_step_spent limits choice now call b ≡ false → AreSpelled (told limits choice now call b)
@@ -60,7 +60,7 @@ world_of now strangers s = record {
 }
 
 -- the event happens, and this is what it tells; or it can't happen there, and nothing changed
-abbrev pub IsDone : Limits → Event → Option Telling → World → World → Type 0
+abbrev pub IsDone : Capacity → Event → Option Telling → World → World → Type 0
 IsDone limits e None w after = IsBadEvent e w × (after ≡ w)
 IsDone limits e (Some t) w after = Happens limits e t w after
 

@@ -6,7 +6,7 @@ use Rattle.mqtt_keep.specs.declared.keeping.keep.KeepError.TheVariants as refusa
 use Rattle.mqtt_world_ends.specs.declared.peers.told.RunFault.{RunFault}
 use Rattle.mqtt_world_ends.specs.declared.peers.told.RunFault.TheVariants as fault
 use Rattle.mqtt_rules.specs.step.Step.{Call, SpentStep}
-use Rattle.mqtt_rules.specs.declared.step.Limits.{Limits}
+use Rattle.mqtt_rules.specs.declared.step.Capacity.{Capacity}
 use Rattle.mqtt_broker_step.specs.declared.call.EngineError.{EngineError}
 use Rattle.mqtt_broker_step.specs.declared.call.EngineError.TheVariants.{Memory, Stopped, Spent}
 use Rattle.mqtt_broker.specs.stored.Opening.{IsRefused}
@@ -24,23 +24,23 @@ fault_of over.Store = fault.Store
 -- ---- a broker is not opened
 
 -- the broker's opening was refused so, and not for want of memory: the store failed, or holds what no broker begins with
-pub record IsUnopened {K : Type 0} (g : Ghosts K) (limits : Limits) (now : ℕ) (keep : K) : Type 0 where
+pub record IsUnopened {K : Type 0} (g : Ghosts K) (limits : Capacity) (now : ℕ) (keep : K) : Type 0 where
   pub error : KeepError
   pub left : K
   pub refused : IsRefused g limits now keep error left
   pub not_memory : error ≢ refusal.Memory
 
 -- the opening's memory was wanting
-abbrev pub IsShortOfMemory : {K : Type 0} → Ghosts K → Limits → ℕ → K → Type 0
+abbrev pub IsShortOfMemory : {K : Type 0} → Ghosts K → Capacity → ℕ → K → Type 0
 IsShortOfMemory {K} g limits now keep = (left : K) × IsRefused g limits now keep refusal.Memory left
 
 -- Memory if the opening answers 1; Store if it answers 2 to 5
-abbrev pub IsUnbegun : {K : Type 0} → Ghosts K → Limits → ℕ → K → Over → Type 0
+abbrev pub IsUnbegun : {K : Type 0} → Ghosts K → Capacity → ℕ → K → Over → Type 0
 IsUnbegun g limits now keep over.Memory = IsShortOfMemory g limits now keep
 IsUnbegun g limits now keep over.Store = IsUnopened g limits now keep
 
 -- the same of what a call answers
-abbrev pub IsNoStart : {K : Type 0} → Ghosts K → Limits → ℕ → K → RunFault → Type 0
+abbrev pub IsNoStart : {K : Type 0} → Ghosts K → Capacity → ℕ → K → RunFault → Type 0
 IsNoStart g limits now keep fault.Memory = IsShortOfMemory g limits now keep
 IsNoStart g limits now keep fault.Store = IsUnopened g limits now keep
 IsNoStart g limits now keep (fault.BadEvent place) = ⊥
@@ -71,7 +71,7 @@ pub data IsStoreDue {K : Type 0} (g : Ghosts K) : Type 0 where
   numbers_spent : (s : Played K) (left : Serving K) (now : ℕ) (call : Call) → IsPlayable g s → IsLeftRefused g s.engine Spent left
       → (g.is_sound left.running.keep → SpentStep s.engine.running.limits s.engine.running.broker now call) → IsStoreDue g
   -- the opening of a broker was refused, and not for want of memory
-  not_opened : (limits : Limits) (now : ℕ) (keep : K) → IsUnopened g limits now keep → IsStoreDue g
+  not_opened : (limits : Capacity) (now : ℕ) (keep : K) → IsUnopened g limits now keep → IsStoreDue g
 
 -- ---- of each reason, and of each answer; want of memory needs no cause
 

@@ -9,13 +9,13 @@ use Rattle.mqtt_records.specs.state.PassedOn.{StoresPassedOn}
 use Rattle.mqtt_rules.specs.spelling.Sending.{HaveSentPhases}
 use Rattle.mqtt_rules.specs.step.State.{MemberChoice}
 use Rattle.mqtt_rules.specs.step.Step.{is_opening_spent, opened}
-use Rattle.mqtt_rules.specs.declared.step.Limits.{Limits}
+use Rattle.mqtt_rules.specs.declared.step.Capacity.{Capacity}
 use Rattle.mqtt_world.specs.clients.Ends.{Ends}
 use Rattle.mqtt_world.specs.scene.Scenes.{IsPlayable, Played, WasSound}
 
 -- a broker is opened on these records, for some choice of members, and that spends no number; it is what that opening leaves, while
 -- the device of its store returns what was written
-pub record Opens {K : Type 0} (g : Ghosts K) (limits : Limits) (now : ℕ) (r : Records) (s : Played K) : Type 0 where
+pub record Opens {K : Type 0} (g : Ghosts K) (limits : Capacity) (now : ℕ) (r : Records) (s : Played K) : Type 0 where
   pub choice : MemberChoice
   pub unspent : is_opening_spent limits choice now r ≡ false
   pub broker : g.is_sound s.engine.running.keep → s.engine.running.broker ≡ opened limits choice now r
@@ -27,7 +27,7 @@ pub record Opens {K : Type 0} (g : Ghosts K) (limits : Limits) (now : ℕ) (r : 
 abbrev pub no_ends : Ends
 no_ends = record { publishers = []; receivers = [] }
 
-pub record Begins {K : Type 0} (g : Ghosts K) (limits : Limits) (now : ℕ) (keep : K) (s : Played K) : Type 0 where
+pub record Begins {K : Type 0} (g : Ghosts K) (limits : Capacity) (now : ℕ) (keep : K) (s : Played K) : Type 0 where
   pub loaded : K
   pub records : Records
   pub load : IsLoad g keep records loaded
@@ -46,7 +46,7 @@ ends_restarted e = record {
   receivers = map receiver_restarted e.receivers;
 }
 
-pub record Reopens {K : Type 0} (g : Ghosts K) (limits : Limits) (now : ℕ) (old new : Played K) : Type 0 where
+pub record Reopens {K : Type 0} (g : Ghosts K) (limits : Capacity) (now : ℕ) (old new : Played K) : Type 0 where
   pub playable : IsPlayable g new
   pub limits_are : new.engine.running.limits ≡ limits
   pub sound : WasSound g old new

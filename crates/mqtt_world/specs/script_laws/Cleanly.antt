@@ -3,7 +3,7 @@
 use Rattle.std.specs.Prelude.{◌≡◌, ⊤, ℕ, Bool, true, false, cond, not, ◌&&◌, ◌||◌, List, [], ◌∷◌, ◌++◌, Option, Some, None, bytes_eq}
 use Rattle.std.specs.List.{AllByRecursion, list_any}
 use Rattle.mqtt_rules.specs.step.State.{session_named}
-use Rattle.mqtt_rules.specs.declared.step.Limits.{Limits}
+use Rattle.mqtt_rules.specs.declared.step.Capacity.{Capacity}
 use Rattle.mqtt_world_model.specs.model.Run.{Turn, run}
 use Rattle.mqtt_world_model.specs.model.World as world
 use Rattle.mqtt_world_model.specs.model.World.{World}
@@ -23,7 +23,7 @@ use Rattle.mqtt_world.specs.script_laws.Scripted.{AreTurnsFor, AreTurnsOf, IsRun
 
 -- turns to which the events come lead from the one world to the other. They spend no number; no session of an end's name stands
 -- where it is made, and an end that connects with Clean Start 1 gives no line up, nor connects with 0, until it has read the CONNACK
-pub record ComesFairly (limits : Limits) (es : List Event) (w after : World) : Type 0 where
+pub record ComesFairly (limits : Capacity) (es : List Event) (w after : World) : Type 0 where
   pub turns : List Turn
   pub are : AreTurnsOf limits es turns w
   pub fair : IsFair limits turns w
@@ -68,14 +68,14 @@ IsMadeAnewIf None w = ⊤
 IsMadeAnewIf (Some e) w = IsMadeAnew e w
 
 -- so it is with each event, whatever turns those before it come to
-abbrev pub AreMadeAnew : Limits → List Event → World → Type 0
+abbrev pub AreMadeAnew : Capacity → List Event → World → Type 0
 AreMadeAnew limits [] w = ⊤
 AreMadeAnew limits (e ∷ es) w =
     IsMadeAnewIf (event_of e) w
     × ((turns : List Turn) → AreTurnsFor limits e turns w → AreMadeAnew limits es (run limits turns w))
 
 -- what is asked of a script that begins in this world
-pub record BeginClean (limits : Limits) (es : List Event) (w : World) : Type 0 where
+pub record BeginClean (limits : Capacity) (es : List Event) (w : World) : Type 0 where
   pub starts : keep_clean_starts [] es ≡ true
   pub made : AreMadeAnew limits es w
 
@@ -103,7 +103,7 @@ HaveNoSession es w = AllByRecursion (λ (e : Event). IsMadeAnewIf (event_of e) w
 
 -- the turns of a drain leave none of its receiver's copies, and the receiver's line stands still. Each copy that ends in them is
 -- the receiver's own, and ends at the drain's moment, for a cause of a drain; none ends as too large
-pub record LeaveNone (limits : Limits) (client : List ℕ) (turns : List Turn) (w : World) : Type 0 where
+pub record LeaveNone (limits : Capacity) (client : List ℕ) (turns : List Turn) (w : World) : Type 0 where
   pub empty : waiting_for client (run limits turns w) ≡ 0
   pub good : is_bad_drain client (run limits turns w) ≡ false
   pub ends : AreOfDrain client limits turns w
@@ -112,7 +112,7 @@ pub record LeaveNone (limits : Limits) (client : List ℕ) (turns : List Turn) (
 -- The events come to turns that lead there and spend no number. Whatever turns they come to, if these are fair, of those all is
 -- true that is proved of every run; and each drain among the events leaves none of its receiver's copies, if it spends no number.
 -- If they spend no number, copies enter and end as they do in every run, whatever ends do, fair or not
-pub record ScriptDelivers (limits : Limits) (es : List Event) (w after : World) : Type 0 where
+pub record ScriptDelivers (limits : Capacity) (es : List Event) (w after : World) : Type 0 where
   pub is_run : IsRunOf limits es w after
   pub all : (turns : List Turn) → AreTurnsOf limits es turns w → IsFair limits turns w → DeliversExactlyOnce limits turns w
   pub enters : (turns : List Turn) → AreTurnsOf limits es turns w → IsCounted limits turns w → EntersAllOnce limits turns w

@@ -3,7 +3,7 @@
 use Rattle.std.specs.Prelude.{◌≡◌, ◌⊎◌, ℕ, Bool, true, false, List, [], ◌∷◌, ◌++◌, Option, Some, None}
 use Rattle.mqtt_packet.specs.declared.codec.packet.Packet.{Packet}
 use Rattle.mqtt_rules.specs.step.Contents.{IsTaken}
-use Rattle.mqtt_rules.specs.declared.step.Limits.{Limits}
+use Rattle.mqtt_rules.specs.declared.step.Capacity.{Capacity}
 use Rattle.mqtt_rules.specs.step.Step.{Call, NewLine, Input, BadInput, Lost, Pump, Tick}
 use Rattle.mqtt_world_model.specs.model.Run.{Turn, deeds_over, run}
 use Rattle.mqtt_world_model.specs.model.Tellings.{Telling, silent, telling}
@@ -79,11 +79,11 @@ tells_if true t = t
 tells_if false t = silent
 
 -- what the turns tell to which an event comes
-abbrev pub tells_in : Limits → world.Event → List Turn → World → Telling
+abbrev pub tells_in : Capacity → world.Event → List Turn → World → Telling
 tells_in limits e turns w = tells_if (is_heard e) (telling (deeds_over limits turns w))
 
 -- an event that is not bad comes to turns of one step each, of which none spends a number
-pub record Happens (limits : Limits) (e : world.Event) (t : Telling) (w after : World) : Type 0 where
+pub record Happens (limits : Capacity) (e : world.Event) (t : Telling) (w after : World) : Type 0 where
   pub good : is_bad e w ≡ false
   pub turns : List Turn
   pub unrolls : Unrolls e w (events_of turns)
@@ -92,12 +92,12 @@ pub record Happens (limits : Limits) (e : world.Event) (t : Telling) (w after : 
   pub told : t ≡ tells_in limits e turns w
 
 -- an event of a script: it happens as the world's that it means, or it is a drain
-pub data Passes (limits : Limits) (e : Event) (t : Telling) (w after : World) : Type 0 where
+pub data Passes (limits : Capacity) (e : Event) (t : Telling) (w after : World) : Type 0 where
   as_event : (x : world.Event) → event_of e ≡ Some x → Happens limits x t w after → Passes limits e t w after
   as_drain : (client : List ℕ) → e ≡ Drain client → DrainHappens limits client t w after → Passes limits e t w after
 
 -- a script's events happen, one after the other, with what each tells
-abbrev pub RunsTo : Limits → List Event → List Telling → World → World → Type 0
+abbrev pub RunsTo : Capacity → List Event → List Telling → World → World → Type 0
 RunsTo limits [] tells w after = (tells ≡ []) × (after ≡ w)
 RunsTo limits (e ∷ es) [] w after = ⊥
 RunsTo limits (e ∷ es) (t ∷ ts) w after =
@@ -151,20 +151,20 @@ pub data IsBad (e : Event) (w : World) : Type 0 where
 -- ---- turns to which events come
 
 -- the turns of one event: those of the world's that it means, or of a drain
-pub data AreTurnsFor (limits : Limits) (e : Event) (turns : List Turn) (w : World) : Type 0 where
+pub data AreTurnsFor (limits : Capacity) (e : Event) (turns : List Turn) (w : World) : Type 0 where
   of_event : (x : world.Event) → event_of e ≡ Some x → is_bad x w ≡ false → Unrolls x w (events_of turns)
       → AreTurnsFor limits e turns w
   of_drain : (client : List ℕ) → e ≡ Drain client → AreTurnsOfDrain limits client turns w → AreTurnsFor limits e turns w
 
 -- the turns of each event, one event after the other, from where those before it have come to
-abbrev pub AreTurnsOf : Limits → List Event → List Turn → World → Type 0
+abbrev pub AreTurnsOf : Capacity → List Event → List Turn → World → Type 0
 AreTurnsOf limits [] turns w = turns ≡ []
 AreTurnsOf limits (e ∷ es) turns w =
     (first : List Turn) × (rest : List Turn) × AreTurnsFor limits e first w × (turns ≡ first ++ rest)
     × AreTurnsOf limits es rest (run limits first w)
 
 -- some turns to which the events come lead from the one world to the other, and spend no number
-pub record IsRunOf (limits : Limits) (es : List Event) (w after : World) : Type 0 where
+pub record IsRunOf (limits : Capacity) (es : List Event) (w after : World) : Type 0 where
   pub turns : List Turn
   pub are : AreTurnsOf limits es turns w
   pub unspent : run_spends limits turns w ≡ false

@@ -2,7 +2,7 @@
 use Rattle.std.specs.Prelude.{◌≡◌, ℕ, ◌+◌, ⊤, false, List, [], ◌∷◌, ◌++◌, map, Option}
 use Rattle.mqtt_rules.specs.step.State.{MemberChoice}
 use Rattle.mqtt_rules.specs.step.Step.{NewLine, is_opening_spent}
-use Rattle.mqtt_rules.specs.declared.step.Limits.{Limits}
+use Rattle.mqtt_rules.specs.declared.step.Capacity.{Capacity}
 use Rattle.mqtt_world_model.specs.model.Run.{Turn, read_in, the_deeds}
 use Rattle.mqtt_world_model.specs.model.Tellings.{Telling, telling}
 use Rattle.mqtt_world_model.specs.model.World.{Asking, Event, Setting, Stranger, World, ask, break, calls, clock, connect_end, give_up, happens, is_bad, next_line, old_to_broker}
@@ -10,11 +10,11 @@ use Rattle.mqtt_world_model.specs.model.World.{publish, publisher, pump, receive
 use Rattle.mqtt_world_model.specs.model.World.{tick, to_broker, to_end}
 use Rattle.mqtt_world_laws.specs.acceptance.Spending.{spending}
 
-abbrev pub by_choice : Limits → MemberChoice → Setting
+abbrev pub by_choice : Capacity → MemberChoice → Setting
 by_choice limits choice = record { limits = limits; choice = choice }
 
 -- the event is not bad, and happens by some choice of members that spends no number; and this is what it tells
-pub record IsTurn (limits : Limits) (e : Event) (t : Telling) (w after : World) : Type 0 where
+pub record IsTurn (limits : Capacity) (e : Event) (t : Telling) (w after : World) : Type 0 where
   pub choice : MemberChoice
   pub good : is_bad e w ≡ false
   pub unspent : read_in spending (by_choice limits choice) e w ≡ false
@@ -22,7 +22,7 @@ pub record IsTurn (limits : Limits) (e : Event) (t : Telling) (w after : World) 
   pub told : t ≡ telling (read_in the_deeds (by_choice limits choice) e w)
 
 -- the broker is opened again on what is stored, by some choice of members that spends no number
-pub record IsReopened (limits : Limits) (w after : World) : Type 0 where
+pub record IsReopened (limits : Capacity) (w after : World) : Type 0 where
   pub choice : MemberChoice
   pub unspent : is_opening_spent limits choice w.now w.broker.records ≡ false
   pub is : after ≡ restarts (by_choice limits choice) w
@@ -65,4 +65,4 @@ abbrev pub newcomer : List ℕ → Option ℕ → Stranger
 newcomer name line = record { name = name; number = line; held = [] }
 
 abbrev pub welcomed : Setting → List ℕ → World → World
-welcomed set name w = record (calls set NewLine w) { strangers = w.strangers ++ newcomer name (next_line w.broker) ∷ [] }
+welcomed set name w = record (calls set NewLine w) { strangers = w.strangers ++ newcomer name (next_line set.limits w.broker) ∷ [] }

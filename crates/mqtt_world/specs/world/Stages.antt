@@ -5,7 +5,7 @@ use Rattle.mqtt_world_model.specs.model.Tellings.{Telling, silent}
 use Rattle.mqtt_world_model.specs.model.World.{Event, Stranger, World, unlinked}
 use Rattle.mqtt_rules.specs.step.Laws.{AreWithin}
 use Rattle.mqtt_rules.specs.step.State.{Broker}
-use Rattle.mqtt_rules.specs.declared.step.Limits.{Limits}
+use Rattle.mqtt_rules.specs.declared.step.Capacity.{Capacity}
 use Rattle.mqtt_world_laws.specs.knowing.Knowing.{HasKnowingEnds}
 use Rattle.mqtt_world.specs.scene.Draining.{IsDrainDone}
 use Rattle.mqtt_world.specs.scene.Events.{IsDone, IsReached, SpellsAll, world_of}
@@ -16,7 +16,7 @@ pub record Staged (K : Type 0) : Type 0 where
   pub played : Played K
   pub strangers : List Stranger
   pub now : ℕ
-  pub limits : Limits
+  pub limits : Capacity
 
 -- the world that it is
 abbrev pub world_at : {K : Type 0} → Staged K → World

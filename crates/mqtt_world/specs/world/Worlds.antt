@@ -25,7 +25,7 @@ use Rattle.mqtt_world_laws.specs.headline.Lives.{BeginsWell}
 use Rattle.mqtt_rules.specs.step.Laws.{AreWithin}
 use Rattle.mqtt_rules.specs.step.State.{MemberChoice, session_named}
 use Rattle.mqtt_rules.specs.step.Step.{is_opening_spent}
-use Rattle.mqtt_rules.specs.declared.step.Limits.{Limits}
+use Rattle.mqtt_rules.specs.declared.step.Capacity.{Capacity}
 use Rattle.mqtt_world_laws.specs.knowing.Knowing.{HasKnowingEnds}
 use Rattle.mqtt_world.specs.declared.scene.over.Over.{Over}
 use Rattle.mqtt_world.specs.declared.scene.over.Over.TheVariants as over
@@ -171,7 +171,7 @@ TellsFirstBad {K} g start es answer old new = (from to : Staged K) → old.stage
 
 -- it begins at moment 0 with an opening of lawful records that the store's load answered, without ends or strangers; it is the
 -- definitions' world, if the device of its store is sound
-pub record Starts {K : Type 0} (g : Ghosts K) (limits : Limits) (keep : K) (w : Lasting K) : Type 0 where
+pub record Starts {K : Type 0} (g : Ghosts K) (limits : Capacity) (keep : K) (w : Lasting K) : Type 0 where
   pub loaded : K
   pub records : Records
   pub load : IsLoad g keep records loaded

@@ -7,7 +7,7 @@ ghost use Rattle.mqtt_rules.specs.step.Flight.{HasDistinctIdentifiers};
 ghost use Rattle.mqtt_rules.specs.step.Laws.{AreWithin};
 ghost use Rattle.mqtt_rules.specs.step.State.{MemberChoice};
 ghost use Rattle.mqtt_rules.specs.step.Step.{is_opening_spent};
-ghost use Rattle.mqtt_rules.specs.declared.step.Limits.{Limits as TheLimits};
+ghost use Rattle.mqtt_rules.specs.declared.step.Capacity.{Capacity as TheCapacity};
 ghost use Rattle.mqtt_world_laws.specs.acceptance.Fair.{opened_world};
 ghost use Rattle.mqtt_world_laws.specs.receiver.Drains.{Doing};
 ghost use Rattle.mqtt_world_laws.specs.delivery.Retaining.{AreRetainedOnce};
@@ -43,26 +43,26 @@ pub fn what_a_broker_left_names_its_topics()
 /// sends well, and all of exactly-once delivery holds of every fair script from there. So it is when it is opened on what a
 /// broker has left after any fair openings and calls from nothing stored, of which nothing else is asked (2.2.1, 4.1).
 pub fn a_world_may_begin_on_what_a_broker_wrote()
-    ensures begins { (limits : TheLimits) (choice : MemberChoice) (now : ℕ) (r : Records) → AreWithin limits
+    ensures begins { (limits : TheCapacity) (choice : MemberChoice) (now : ℕ) (r : Records) → AreWithin limits
         → IsWritten r → HaveSentPhases r → is_opening_spent limits choice now r ≡ false
         → BeginsWell limits (opened_world limits choice now r) }
-    ensures contents { (limits : TheLimits) (choice : MemberChoice) (now : ℕ) (r : Records) → IsWritten r
+    ensures contents { (limits : TheCapacity) (choice : MemberChoice) (now : ℕ) (r : Records) → IsWritten r
         → AreContentsLawful (opened_world limits choice now r).broker }
-    ensures sends { (limits : TheLimits) (choice : MemberChoice) (now : ℕ) (r : Records) → WasLeft r
+    ensures sends { (limits : TheCapacity) (choice : MemberChoice) (now : ℕ) (r : Records) → WasLeft r
         → is_opening_spent limits choice now r ≡ false → SendsWell (opened_world limits choice now r).broker }
-    ensures sends_wherever { (limits : TheLimits) (choice : MemberChoice) (now : ℕ) (r : Records) → IsWritten r
+    ensures sends_wherever { (limits : TheCapacity) (choice : MemberChoice) (now : ℕ) (r : Records) → IsWritten r
         → HaveSentPhases r → is_opening_spent limits choice now r ≡ false
         → SendsWell (opened_world limits choice now r).broker }
-    ensures delivers { (limits : TheLimits) (choice : MemberChoice) (now : ℕ) (r : Records) (ds : List Doing) → AreWithin limits
+    ensures delivers { (limits : TheCapacity) (choice : MemberChoice) (now : ℕ) (r : Records) (ds : List Doing) → AreWithin limits
         → IsWritten r → HaveSentPhases r → is_opening_spent limits choice now r ≡ false
         → IsFairScript limits ds (opened_world limits choice now r)
         → DoingsDeliver limits ds (opened_world limits choice now r) }
 
     // On what a broker has left.
-    ensures left_begins { (limits : TheLimits) (choice : MemberChoice) (now : ℕ) (r : Records) → AreWithin limits
+    ensures left_begins { (limits : TheCapacity) (choice : MemberChoice) (now : ℕ) (r : Records) → AreWithin limits
         → WasLeft r → is_opening_spent limits choice now r ≡ false
         → BeginsWell limits (opened_world limits choice now r) }
-    ensures left_delivers { (limits : TheLimits) (choice : MemberChoice) (now : ℕ) (r : Records) (ds : List Doing)
+    ensures left_delivers { (limits : TheCapacity) (choice : MemberChoice) (now : ℕ) (r : Records) (ds : List Doing)
         → AreWithin limits → WasLeft r → is_opening_spent limits choice now r ≡ false
         → IsFairScript limits ds (opened_world limits choice now r)
         → DoingsDeliver limits ds (opened_world limits choice now r) }

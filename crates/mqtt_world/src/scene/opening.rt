@@ -12,7 +12,7 @@ use crate::scene::halt::Halt;
 use crate::scene::scene::{Scene, moment};
 use mqtt_broker::Engine;
 use mqtt_keep::Keep;
-use mqtt_rules::Limits;
+use mqtt_rules::Capacity;
 use std::alloc::Global;
 use std::hash::RandomState;
 
@@ -22,14 +22,14 @@ impl<K: Keep> Scene<K> {
         alloc: Global,
         keep: K,
         now: u64,
-        limits: Limits,
+        limits: Capacity,
         hasher: RandomState,
     ) -> Result<Scene<K>, Halt<K>>
         requires within { AreWithin limits }
         ensures begins { IfOk result (λ scene. Begins K.Keep limits now keep scene) }
         ensures refused { IfErr result (IsUnbegun K.Keep limits (min now LAST_NUMBER) keep) }
     {
-        match Engine::open(alloc, keep, moment(now), limits, hasher) {
+        match Engine::with_capacity(alloc, keep, moment(now), limits, hasher) {
             Ok(engine) => Ok(Scene {
                 engine,
                 clients: Clients::new(alloc),
@@ -43,7 +43,7 @@ impl<K: Keep> Scene<K> {
         self,
         alloc: Global,
         now: u64,
-        limits: Limits,
+        limits: Capacity,
         hasher: RandomState,
     ) -> Result<Scene<K>, Halt<K>>
         requires within { AreWithin limits }
@@ -54,7 +54,7 @@ impl<K: Keep> Scene<K> {
             engine,
             mut clients,
         } = self;
-        match Engine::open(alloc, engine.close(), moment(now), limits, hasher) {
+        match Engine::with_capacity(alloc, engine.close(), moment(now), limits, hasher) {
             Ok(engine) => {
                 clients.restart();
                 Ok(Scene { engine, clients })

@@ -85,7 +85,7 @@ impl<K: Keep> Scene<K> {
     /// A line is linked, and gets the next number, if there is room for it. Takes no memory.
     pub fn link(&mut self, now: u64) -> Option<u64>
         requires { IsPlayable K.Keep self.old }
-        ensures line { result ≡ next_line self.old.engine.running.broker }
+        ensures line { result ≡ next_line self.old.engine.running.limits self.old.engine.running.broker }
         ensures calls { Calls K.Keep now NewLine self.old silent self.new }
     {
         self.engine.link(moment(now))

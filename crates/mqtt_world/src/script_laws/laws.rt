@@ -7,7 +7,7 @@ ghost use Rattle.mqtt_world_model.specs.model.Tellings.{Telling};
 ghost use Rattle.mqtt_world_model.specs.model.World as world;
 ghost use Rattle.mqtt_world_model.specs.model.World.{World};
 ghost use Rattle.mqtt_rules.specs.step.Laws.{AreWithin};
-ghost use Rattle.mqtt_rules.specs.declared.step.Limits.{Limits};
+ghost use Rattle.mqtt_rules.specs.declared.step.Capacity.{Capacity};
 ghost use Rattle.mqtt_script.specs.declared.event.Event.{Event};
 ghost use Rattle.mqtt_script.specs.declared.event.Event.TheVariants.{Drain};
 ghost use Rattle.mqtt_world.specs.script_laws.Cleanly.{BeginClean, ComesFairly};
@@ -20,20 +20,20 @@ ghost use Rattle.mqtt_world_laws.specs.acceptance.Spending.{run_spends};
 /// What a script's events do, one after the other, is what turns of the world do that are of one step of the broker each, and
 /// none of them spends a number (4.1).
 pub fn a_script_runs_by_turns()
-    ensures is { (limits : Limits) (es : List Event) (tells : List Telling) (w after : World)
+    ensures is { (limits : Capacity) (es : List Event) (tells : List Telling) (w after : World)
         → RunsTo limits es tells w after → IsRunOf limits es w after }
 {}
 
 /// A script's events may come in several runs, each from where the one before it ended: together they are one run; so with
 /// one event more, and with a drain more.
 pub fn scripts_follow_one_another()
-    ensures joins { (limits : Limits) (es more : List Event) (tells others : List Telling) (w mid after : World)
+    ensures joins { (limits : Capacity) (es more : List Event) (tells others : List Telling) (w mid after : World)
         → RunsTo limits es tells w mid → RunsTo limits more others mid after
         → RunsTo limits (es ++ more) (tells ++ others) w after }
-    ensures further { (limits : Limits) (es : List Event) (tells : List Telling) (e : Event) (x : world.Event)
+    ensures further { (limits : Capacity) (es : List Event) (tells : List Telling) (e : Event) (x : world.Event)
         (t : Telling) (w mid after : World) → RunsTo limits es tells w mid
         → event_of e ≡ Some x → Happens limits x t mid after → RunsTo limits (es ++ e ∷ []) (tells ++ t ∷ []) w after }
-    ensures drained { (limits : Limits) (es : List Event) (tells : List Telling) (client : List ℕ) (t : Telling)
+    ensures drained { (limits : Capacity) (es : List Event) (tells : List Telling) (client : List ℕ) (t : Telling)
         (w mid after : World) → RunsTo limits es tells w mid → DrainHappens limits client t mid after
         → RunsTo limits (es ++ Drain client ∷ []) (tells ++ t ∷ []) w after }
 {}
@@ -43,11 +43,11 @@ pub fn scripts_follow_one_another()
 /// do by its events alone (`fair`, and `comes` of a script that ran). Of where the script begins is asked what every run asks
 /// (3.1.2.4, 3.3.4, 4.3, 4.4, 4.6, 4.8, 4.9).
 pub fn whatever_a_script_does()
-    ensures delivers { (limits : Limits) (es : List Event) (turns : List Turn) (w : World)
+    ensures delivers { (limits : Capacity) (es : List Event) (turns : List Turn) (w : World)
         → BeginsWell limits w → AreTurnsOf limits es turns w → IsFair limits turns w → DeliversExactlyOnce limits turns w }
-    ensures fair { (limits : Limits) (es : List Event) (turns : List Turn) (w : World) → AreWithin limits
+    ensures fair { (limits : Capacity) (es : List Event) (turns : List Turn) (w : World) → AreWithin limits
         → IsUntouched limits w → BeginClean limits es w → AreTurnsOf limits es turns w
         → run_spends limits turns w ≡ false → IsFair limits turns w }
-    ensures comes { (limits : Limits) (es : List Event) (tells : List Telling) (w after : World) → AreWithin limits
+    ensures comes { (limits : Capacity) (es : List Event) (tells : List Telling) (w after : World) → AreWithin limits
         → IsUntouched limits w → BeginClean limits es w → RunsTo limits es tells w after → ComesFairly limits es w after }
 {}

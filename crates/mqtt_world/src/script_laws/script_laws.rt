@@ -7,7 +7,7 @@ ghost use Rattle.mqtt_world_model.specs.model.World.{World, start};
 ghost use Rattle.mqtt_records.specs.state.Records.{nothing};
 ghost use Rattle.mqtt_rules.specs.step.Laws.{AreWithin};
 ghost use Rattle.mqtt_rules.specs.step.State.{MemberChoice};
-ghost use Rattle.mqtt_rules.specs.declared.step.Limits.{Limits};
+ghost use Rattle.mqtt_rules.specs.declared.step.Capacity.{Capacity};
 ghost use Rattle.mqtt_script.specs.declared.event.Event.{Event};
 ghost use Rattle.mqtt_world.specs.script_laws.Cleanly.{AreMadeAnew, HaveNoSession, ScriptDelivers, makes_ends_first};
 ghost use Rattle.mqtt_world.specs.script_laws.Scripted.{HasBadFront, IsBad, IsBadHere, RunsTo};
@@ -24,26 +24,26 @@ ghost use Rattle.mqtt_world_laws.specs.acceptance.Fair.{opened_world};
 /// that copies enter and end so is true of the others too. From nothing stored nothing else is asked (3.1.2.4, 3.3.4, 4.3, 4.4,
 /// 4.6, 4.8, 4.9).
 pub fn scripts_deliver_exactly_once()
-    ensures delivers { (limits : Limits) (es : List Event) (tells : List Telling) (w after : World)
+    ensures delivers { (limits : Capacity) (es : List Event) (tells : List Telling) (w after : World)
         → BeginsWell limits w → RunsTo limits es tells w after → ScriptDelivers limits es w after }
-    ensures empty { (limits : Limits) (choice : MemberChoice) → opened_world limits choice 0 nothing ≡ start }
-    ensures from_nothing { (limits : Limits) (es : List Event) (tells : List Telling) (after : World) → AreWithin limits
+    ensures empty { (limits : Capacity) (choice : MemberChoice) → opened_world limits choice 0 nothing ≡ start }
+    ensures from_nothing { (limits : Capacity) (es : List Event) (tells : List Telling) (after : World) → AreWithin limits
         → RunsTo limits es tells start after → ScriptDelivers limits es start after }
 {}
 
 /// A script that makes its ends before all else makes each where no session of its name stands, if none is stored; so it is where
 /// nothing is (3.1.2.4).
 pub fn ends_that_come_first_are_made_anew()
-    ensures stored { (limits : Limits) (es : List Event) (w : World) → makes_ends_first es ≡ true → HaveNoSession es w
+    ensures stored { (limits : Capacity) (es : List Event) (w : World) → makes_ends_first es ≡ true → HaveNoSession es w
         → AreMadeAnew limits es w }
-    ensures from_nothing { (limits : Limits) (es : List Event) → makes_ends_first es ≡ true → AreMadeAnew limits es start }
+    ensures from_nothing { (limits : Capacity) (es : List Event) → makes_ends_first es ≡ true → AreMadeAnew limits es start }
 {}
 
 /// In each script that ran strangers of one name hold the same bytes, and nothing whole is held of them (2.1).
 pub fn strangers_hold_no_packet()
-    ensures alike { (limits : Limits) (es : List Event) (tells : List Telling) (w after : World)
+    ensures alike { (limits : Capacity) (es : List Event) (tells : List Telling) (w after : World)
         → RunsTo limits es tells w after → AreAllAlike w → AreAllAlike after }
-    ensures waits { (limits : Limits) (es : List Event) (tells : List Telling) (w after : World)
+    ensures waits { (limits : Capacity) (es : List Event) (tells : List Telling) (w after : World)
         → RunsTo limits es tells w after → AreAllAlike w → HoldNoPacket w → HoldNoPacket after }
 {}
 
@@ -51,12 +51,12 @@ pub fn strangers_hold_no_packet()
 /// if that is bad as the world's that it means, or as a drain. Asked: nobody was there at first, and the broker sent well
 /// then; so from nothing stored nothing (1.5.4, 2.1.4, 2.2.1).
 pub fn what_is_in_front_is_taken()
-    ensures fronts { (limits : Limits) (es : List Event) (tells : List Telling) (w after : World) → IsUninhabited w
+    ensures fronts { (limits : Capacity) (es : List Event) (tells : List Telling) (w after : World) → IsUninhabited w
         → SendsWell w.broker → RunsTo limits es tells w after
         → (x : world.Event) → ¬ HasBadFront x after }
-    ensures refuses { (limits : Limits) (es : List Event) (tells : List Telling) (w after : World) → IsUninhabited w
+    ensures refuses { (limits : Capacity) (es : List Event) (tells : List Telling) (w after : World) → IsUninhabited w
         → SendsWell w.broker → RunsTo limits es tells w after
         → (e : Event) → IsBadHere e after → IsBad e after }
-    ensures from_nothing { (limits : Limits) (es : List Event) (tells : List Telling) (after : World) → AreWithin limits
+    ensures from_nothing { (limits : Capacity) (es : List Event) (tells : List Telling) (after : World) → AreWithin limits
         → RunsTo limits es tells start after → (e : Event) → IsBadHere e after → IsBad e after }
 {}

@@ -7,7 +7,7 @@ ghost use Rattle.mqtt_world.specs.world.Stages.{IsStanding, Plays, Restages};
 use crate::scene::{Halt, Scene};
 use mqtt_broker_looks::decided::later;
 use mqtt_keep::Keep;
-use mqtt_rules::Limits;
+use mqtt_rules::Capacity;
 use mqtt_world_ends::peers::Told;
 use mqtt_world_ends::strangers::Strangers;
 use std::alloc::Global;
@@ -21,7 +21,7 @@ pub(crate) struct Stage<K: Keep> {
     pub(crate) scene: Scene<K>,
     pub(crate) strangers: Strangers,
     pub(crate) now: u64,
-    pub(crate) limits: Limits,
+    pub(crate) limits: Capacity,
     pub(crate) hasher: RandomState,
     pub(crate) alloc: Global,
 }

@@ -2,7 +2,7 @@
 //! 4.4).
 
 ghost use Rattle.std.specs.Prelude.{◌≡◌, [], ◌∷◌, ◌++◌, length, Err, IfErr, IfOk, Ok, OnOk};
-ghost use Rattle.mqtt_rules.specs.step.Laws.{AreWithin};
+ghost use Rattle.mqtt_rules.specs.step.Laws.{AreWithin, unasked};
 ghost use Rattle.mqtt_world_model.specs.model.Tellings.{Telling};
 ghost use Rattle.mqtt_world_model.specs.model.World.{World as Start};
 ghost use Rattle.mqtt_world_ends.specs.declared.peers.told.RunFault.TheVariants as fault;
@@ -15,8 +15,9 @@ ghost use Rattle.mqtt_world.specs.declared.scene.over.Over.TheVariants as over;
 use crate::scene::{Halt, Scene};
 use crate::world::kept::Kept;
 use crate::world::stage::Stage;
+use mqtt_base::LINES_UNASKED;
 use mqtt_keep::Keep;
-use mqtt_rules::Limits;
+use mqtt_rules::{Capacity, Limits};
 use mqtt_script::Event;
 use mqtt_world_ends::peers::{RunFault, Told};
 use mqtt_world_ends::strangers::Strangers;
@@ -66,6 +67,20 @@ impl<K: Keep> World<K> {
         alloc: Global,
         keep: K,
         limits: Limits,
+        hasher: RandomState,
+    ) -> Result<World<K>, RunFault>
+        requires within { AreWithin (unasked limits) }
+        ensures starts { IfOk result (λ w. Starts K.Keep (unasked limits) keep w) }
+        ensures refused { IfErr result (IsNoStart K.Keep (unasked limits) 0 keep) }
+    {
+        World::with_capacity(alloc, keep, limits.with_lines(LINES_UNASKED), hasher)
+    }
+
+    /// The same, whose broker has room for as many lines as are asked for, 1,000 at the most.
+    pub fn with_capacity(
+        alloc: Global,
+        keep: K,
+        limits: Capacity,
         hasher: RandomState,
     ) -> Result<World<K>, RunFault>
         requires within { AreWithin limits }

@@ -103,7 +103,7 @@ piece_deeds set name piece w s =
 
 -- a stranger who is welcomed is found
 pub first_found : (set : Setting) (name : List ℕ) (w : World) → stranger_named name w ≡ None
-    → stranger_named name (welcomes set name w) ≡ Some (newcomer name (next_line w.broker))
+    → stranger_named name (welcomes set name w) ≡ Some (newcomer name (next_line set.limits w.broker))
 first_found set name w none = welcomed_found set name w none
 
 find_told : {X : Type 0} (test : X → Bool) (f : X → X) (xs : List X) → ((x : X) → test (f x) ≡ test x)

@@ -60,7 +60,7 @@ newcomer name line = record { name = name; number = line; held = [] }
 
 -- its line is linked, if there is one for it
 abbrev pub welcomes : Setting → List ℕ → World → World
-welcomes set name w = record (calls set NewLine w) { strangers = w.strangers ++ newcomer name (next_line w.broker) ∷ [] }
+welcomes set name w = record (calls set NewLine w) { strangers = w.strangers ++ newcomer name (next_line set.limits w.broker) ∷ [] }
 
 -- a piece of its bytes comes, and what is whole of them is held no longer
 abbrev pub takes_piece : List ℕ → List ℕ → World → World

@@ -19,7 +19,7 @@ pub fn a_piece_is_a_step()
 /// The first piece of a stranger comes as it would to one that was linked before, and had sent nothing.
 pub fn a_stranger_is_welcomed_first()
     ensures found { (set : Setting) (name : List ℕ) (w : World) → stranger_named name w ≡ None
-        → stranger_named name (welcomes set name w) ≡ Some (newcomer name (next_line w.broker)) }
+        → stranger_named name (welcomes set name w) ≡ Some (newcomer name (next_line set.limits w.broker)) }
     ensures good { (set : Setting) (name piece : List ℕ) (w : World) → stranger_named name w ≡ None
         → is_bad (ask (stranger name piece)) w ≡ false
         → is_bad (ask (stranger name piece)) (welcomes set name w) ≡ false }

@@ -4,7 +4,7 @@ use Rattle.std.specs.Prelude.{⊤, flat_map, filter_map}
 use Rattle.std.specs.List.{AllByRecursion}
 use Rattle.std.proofs.lemmas.Grind.{flat_map-append}
 use Rattle.std.proofs.lemmas.List.Elements.{filter_map-append}
-use Rattle.mqtt_rules.specs.declared.step.Limits.{Limits}
+use Rattle.mqtt_rules.specs.declared.step.Capacity.{Capacity}
 use Rattle.mqtt_rules.specs.step.Deeds.{Deed}
 use Rattle.mqtt_rules.specs.step.Laws.{AreWithin}
 use Rattle.mqtt_rules.specs.step.State.{Broker}
@@ -27,7 +27,7 @@ use Rattle.mqtt_world_laws.proofs.causes_lemmas.EachCall.{call_caused, opening_c
 abbrev Any : List Deed → Broker → Broker → Type 0
 Any ds b d = ⊤
 
-anything : (limits : Limits) → Walk limits Any
+anything : (limits : Capacity) → Walk limits Any
 anything limits = record {
   none = λ b. tt;
   next = λ xs ys a b d p q. tt;
@@ -102,7 +102,7 @@ module _ (set : Setting) (within : AreWithin set.limits) where
 
 -- ---- a turn, and a run
 
-turn_caused : (limits : Limits) (t : Turn) (w : World) → AreWithin limits → IsSteady w.broker → read_at spending (setting limits t) t.event w ≡ false → AreCaused (read_at the_asked (setting limits t) t.event w)
+turn_caused : (limits : Capacity) (t : Turn) (w : World) → AreWithin limits → IsSteady w.broker → read_at spending (setting limits t) t.event w ≡ false → AreCaused (read_at the_asked (setting limits t) t.event w)
 turn_caused limits t w within s unspent = by (is_bad t.event w) unspent
   where
     set : Setting
@@ -113,7 +113,7 @@ turn_caused limits t w within s unspent = by (is_bad t.event w) unspent
     by false u = happened set within t.event w s u
 
 -- from whatever world, if its tables are in order
-pub all_steps : (limits : Limits) (ts : List Turn) (w : World) → AreWithin limits → IsSteady w.broker → run_spends limits ts w ≡ false → AreCaused (asked_over limits ts w)
+pub all_steps : (limits : Capacity) (ts : List Turn) (w : World) → AreWithin limits → IsSteady w.broker → run_spends limits ts w ≡ false → AreCaused (asked_over limits ts w)
 all_steps limits [] w within s unspent = tt
 all_steps limits (t ∷ ts) w within s unspent =
     let v = turned limits t w in
@@ -128,7 +128,7 @@ joined [] h = tt
 joined (x ∷ xs) h = each_append HasCause (ends_in x) (flat_map ends_in xs) h.0 (joined xs h.1)
 
 -- each end of a run has its cause
-pub run_caused : (limits : Limits) (ts : List Turn) (w : World) → IsNew w → IsCounted limits ts w → EachHasItsCause limits ts w
+pub run_caused : (limits : Capacity) (ts : List Turn) (w : World) → IsNew w → IsCounted limits ts w → EachHasItsCause limits ts w
 run_caused limits ts w new fair = joined (asked_over limits ts w) (all_steps limits ts w fair.within new.steady fair.unspent)
 
 -- ---- and these are all ends: the deeds are those of the steps
@@ -181,7 +181,7 @@ module _ (set : Setting) where
       let v = first_step set a w in
       same_both (read_first the_deeds set a w) (read_opening the_deeds set v) (read_first the_asked set a w) (read_opening the_asked set v) (first_same a w) (opening_same v)
 
-turn_same : (limits : Limits) (t : Turn) (w : World) → read_at the_deeds (setting limits t) t.event w ≡ deeds_in (read_at the_asked (setting limits t) t.event w)
+turn_same : (limits : Capacity) (t : Turn) (w : World) → read_at the_deeds (setting limits t) t.event w ≡ deeds_in (read_at the_asked (setting limits t) t.event w)
 turn_same limits t w = by (is_bad t.event w)
   where
     set : Setting
@@ -191,7 +191,7 @@ turn_same limits t w = by (is_bad t.event w)
     by true = refl
     by false = event_same set t.event w
 
-run_same : (limits : Limits) (ts : List Turn) (w : World) → deeds_over limits ts w ≡ deeds_in (asked_over limits ts w)
+run_same : (limits : Capacity) (ts : List Turn) (w : World) → deeds_over limits ts w ≡ deeds_in (asked_over limits ts w)
 run_same limits [] w = refl
 run_same limits (t ∷ ts) w =
     let v = turned limits t w in
@@ -209,5 +209,5 @@ counted (x ∷ xs) =
     ∙ ap (λ (es : List End). filter_map ended_in x.step.deeds ++ es) (counted xs) ∙ sym (filter_map-append ended_in x.step.deeds (deeds_in xs))
 
 -- in every run each copy ends by its cause
-pub all_ends : (limits : Limits) (ts : List Turn) (w : World) → AreAllEnds limits ts w
+pub all_ends : (limits : Capacity) (ts : List Turn) (w : World) → AreAllEnds limits ts w
 all_ends limits ts w = counted (asked_over limits ts w) ∙ ap (λ (ds : List Deed). filter_map ended_in ds) (sym (run_same limits ts w))

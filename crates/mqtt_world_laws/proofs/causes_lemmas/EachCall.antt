@@ -452,7 +452,7 @@ module _ (m : Asked) where
 
   -- each copy that ends in a call has its cause
   pub call_caused : (call : Call) → m.call ≡ Some call → Orders m.step.broker → Caused m (deeds_of env call m.step.broker) m.step.broker
-  call_caused NewLine asked h = let b = m.step.broker in quietly m (cond (can_link b) (Link (suc b.given) ∷ []) []) b (quiet_cond (can_link b) (Link (suc b.given) ∷ []) [] (tt, tt) tt)
+  call_caused NewLine asked h = let b = m.step.broker in quietly m (cond (can_link env.limits b) (Link (suc b.given) ∷ []) []) b (quiet_cond (can_link env.limits b) (Link (suc b.given) ∷ []) [] (tt, tt) tt)
   call_caused (Input n packet) asked h =
       let b = m.step.broker in
       on_a_line (line_at n b) (λ l. series (always (On n Hear ∷ []) ∷ on_packet env l packet l.session ∷ [])) b

@@ -16,7 +16,7 @@ use Rattle.mqtt_packet.specs.declared.codec.packet.Packet.{Packet}
 use Rattle.mqtt_packet.specs.declared.codec.packet.Packet.TheVariants.{Publish}
 use Rattle.mqtt_flow.specs.declared.outbound.entry.Full.TheVariants.{Drop}
 use Rattle.mqtt_records.specs.declared.state.session.Session.{Session}
-use Rattle.mqtt_rules.specs.declared.step.Limits.{Limits}
+use Rattle.mqtt_rules.specs.declared.step.Capacity.{Capacity}
 use Rattle.mqtt_records.specs.messages.PassedOn.{property}
 use Rattle.mqtt_rules.specs.step.Packets.{puback, pubcomp, pubrec}
 use Rattle.mqtt_rules.specs.step.State.{Broker, session_at}
@@ -45,12 +45,12 @@ seen x = record { by = x.ending; phase = x.row.phase; long = long_of (session_at
 abbrev ended : Ending → Phase → ℕ → Seen
 ended by phase long = record { by = by; phase = phase; long = long }
 
-abbrev asked_for : Limits → Event → Broker → Asked
+abbrev asked_for : Capacity → Event → Broker → Asked
 asked_for limits (at now call) b =
     record { call = Some call; step = record { env = env_of limits first b; deeds = deeds limits first now call b; broker = at_moment now b } }
 
 -- the ends in the last of these steps
-abbrev ends_with : Limits → List Event → Event → List Seen
+abbrev ends_with : Capacity → List Event → Event → List Seen
 ends_with limits es e = map seen (ends_in (asked_for limits e (runs_with limits es blank)))
 
 abbrev ends : List Event → Event → List Seen

@@ -16,7 +16,7 @@ use Rattle.mqtt_records.specs.declared.state.change.Change.{Change}
 use Rattle.mqtt_world_model.specs.model.World.{happens as happen}
 use Rattle.std.proofs.Math.Nat.{le-max_right, max-eq_left}
 use Rattle.mqtt_rules.specs.step.Step.{Call, Input, Pump, at_moment, deeds, done, with_moment}
-use Rattle.mqtt_rules.specs.declared.step.Limits.{Limits}
+use Rattle.mqtt_rules.specs.declared.step.Capacity.{Capacity}
 use Rattle.mqtt_world_model.specs.model.Ends.{Back, Publisher, Receiver, wire_back}
 use Rattle.mqtt_world_model.specs.model.Run.{Turn, are_beginnings_clean, begins_clean, read_at, read_if, read_in, run, setting, turned}
 use Rattle.mqtt_world_model.specs.model.World.{Event, Setting, View, World, ask, before, calls, calls_if, input_on, is_bad, pump, pump_on, receiver_named, start, to_broker, to_end, view_by, view_of}
@@ -71,25 +71,25 @@ if_moment set None w = refl
 if_moment set (Some call) w = call_moment set call w
 
 -- the receiver's copies fit wherever it stands, but if this holds
-abbrev pub FitsWherever : Type 0 → List ℕ → Limits → Type 0
+abbrev pub FitsWherever : Type 0 → List ℕ → Capacity → Type 0
 FitsWherever large client limits = (w : World) (r : Receiver) → IsKept [] client limits w → receiver_named client w ≡ Some r → HasFit large r w.broker
 
 -- the receiver stands, is there, and says that all is well
-record IsReady (client : List ℕ) (limits : Limits) (moment : ℕ) (w : World) : Type 0 where
+record IsReady (client : List ℕ) (limits : Capacity) (moment : ℕ) (w : World) : Type 0 where
   kept : IsKept [] client limits w
   there : is_some (receiver_named client w) ≡ true
   says : AllSay w
   at : moment_of w ≡ moment
 
 -- two lists of turns ask what both ask
-pub asked_append : (limits : Limits) (xs ys : List Turn) (w : World) → asked_over limits (xs ++ ys) w ≡ asked_over limits xs w ++ asked_over limits ys (run limits xs w)
+pub asked_append : (limits : Capacity) (xs ys : List Turn) (w : World) → asked_over limits (xs ++ ys) w ≡ asked_over limits xs w ++ asked_over limits ys (run limits xs w)
 asked_append limits [] ys w = refl
 asked_append limits (t ∷ xs) ys w =
     let first = read_at the_asked (setting limits t) t.event w in
     let v = turned limits t w in
     ap (λ (zs : List Asked). first ++ zs) (asked_append limits xs ys v) ∙ sym (append_assoc first (asked_over limits xs v) (asked_over limits ys (run limits xs v)))
 
-module _ (large : Type 0) (client : List ℕ) (limits : Limits) (fits : FitsWherever large client limits) (choice : MemberChoice) (moment : ℕ) where
+module _ (large : Type 0) (client : List ℕ) (limits : Capacity) (fits : FitsWherever large client limits) (choice : MemberChoice) (moment : ℕ) where
   abbrev set : Setting
   set = record { limits = limits; choice = choice }
 
@@ -283,7 +283,7 @@ all_fit : (largest : ℕ) (es : List FlowEntry) → AreFit ⊤ largest es
 all_fit largest [] = tt
 all_fit largest (e ∷ es) = (record { released = any_phase e.phase; above = λ h. tt }, all_fit largest es)
 
-any_fit : (client : List ℕ) (limits : Limits) → FitsWherever ⊤ client limits
+any_fit : (client : List ℕ) (limits : Capacity) → FitsWherever ⊤ client limits
 any_fit client limits w r kept e n l birth s number at on there its = all_fit l.largest (queue_on l.went s)
 
 -- ---- with their causes
@@ -292,7 +292,7 @@ or_none : {b c : Bool} (a : Bool) → (a || b) ≡ false → (b ≡ false → c 
 or_none true h k = h
 or_none false h k = k h
 
-spent_joined : (limits : Limits) (xs ys : List Turn) (w : World) → run_spends limits xs w ≡ false → run_spends limits ys (run limits xs w) ≡ false → run_spends limits (xs ++ ys) w ≡ false
+spent_joined : (limits : Capacity) (xs ys : List Turn) (w : World) → run_spends limits xs w ≡ false → run_spends limits ys (run limits xs w) ≡ false → run_spends limits (xs ++ ys) w ≡ false
 spent_joined limits [] ys w h k = k
 spent_joined limits (t ∷ xs) ys w h k = or_none (read_at spending (setting limits t) t.event w) h (λ e. spent_joined limits xs ys (turned limits t w) e k)
 
@@ -300,11 +300,11 @@ both_and : {b c : Bool} (a : Bool) → (a && b) ≡ true → (b ≡ true → c �
 both_and true h k = k h
 both_and false h k = absurd cc
 
-clean_joined : (limits : Limits) (xs ys : List Turn) (w : World) → are_beginnings_clean limits xs w ≡ true → are_beginnings_clean limits ys (run limits xs w) ≡ true → are_beginnings_clean limits (xs ++ ys) w ≡ true
+clean_joined : (limits : Capacity) (xs ys : List Turn) (w : World) → are_beginnings_clean limits xs w ≡ true → are_beginnings_clean limits ys (run limits xs w) ≡ true → are_beginnings_clean limits (xs ++ ys) w ≡ true
 clean_joined limits [] ys w h k = k
 clean_joined limits (t ∷ xs) ys w h k = both_and (begins_clean t.event w) h (λ e. clean_joined limits xs ys (turned limits t w) e k)
 
-drain_clean : (limits : Limits) (choice : MemberChoice) (client : List ℕ) (most : ℕ) (w : World) → are_beginnings_clean limits (drain_turns limits choice client most w) w ≡ true
+drain_clean : (limits : Capacity) (choice : MemberChoice) (client : List ℕ) (most : ℕ) (w : World) → are_beginnings_clean limits (drain_turns limits choice client most w) w ≡ true
 drain_clean limits choice client zero w = refl
 drain_clean limits choice client (suc most) w = by (is_over client w) (drain_clean limits choice client most (after_round limits choice client w))
   where
@@ -318,7 +318,7 @@ last_of [] ys h = h
 last_of (x ∷ xs) ys h = last_of xs ys h.1
 
 -- two lists of turns end the copies of both
-pub ends_append : (limits : Limits) (xs ys : List Turn) (w : World) → ends_over limits (xs ++ ys) w ≡ ends_over limits xs w ++ ends_over limits ys (run limits xs w)
+pub ends_append : (limits : Capacity) (xs ys : List Turn) (w : World) → ends_over limits (xs ++ ys) w ≡ ends_over limits xs w ++ ends_over limits ys (run limits xs w)
 ends_append limits xs ys w = ap (flat_map ends_in) (asked_append limits xs ys w) ∙ flat_map-append ends_in (asked_over limits xs w) (asked_over limits ys (run limits xs w))
 
 -- steps of a drain end copies of the drained session
@@ -331,7 +331,7 @@ with_causes client moment [] p q = tt
 with_causes client moment (x ∷ xs) p q = let y = p.0 in (record { its = y.its; by = ends_by ⊤ client x.asked.call x.ending y.by; at = y.at; cause = q.0 }, with_causes client moment xs p.1 q.1)
 
 -- in a drain copies end as the definition says
-pub drain_ends : (limits : Limits) (ts : List Turn) (choice : MemberChoice) (client : List ℕ) (most : ℕ) (w : World) → IsUntouched limits w → IsFair limits ts w
+pub drain_ends : (limits : Capacity) (ts : List Turn) (choice : MemberChoice) (client : List ℕ) (most : ℕ) (w : World) → IsUntouched limits w → IsFair limits ts w
     → run_spends limits (drain_turns limits choice client most (run limits ts w)) (run limits ts w) ≡ false → EndOfDrain limits choice client most (run limits ts w)
 drain_ends limits ts choice client most w u fair unspent =
     let v = run limits ts w in
@@ -345,12 +345,12 @@ drain_ends limits ts choice client most w u fair unspent =
 
 -- ---- of scripts
 
-first_fair : (limits : Limits) (xs ys : List Turn) (w : World) → IsFair limits (xs ++ ys) w → IsFair limits xs w × (run_spends limits ys (run limits xs w) ≡ false)
+first_fair : (limits : Capacity) (xs ys : List Turn) (w : World) → IsFair limits (xs ++ ys) w → IsFair limits xs w × (run_spends limits ys (run limits xs w) ≡ false)
 first_fair limits xs ys w fair =
     let costs = spent_append limits xs ys w fair.unspent in
     (record { within = fair.within; unspent = costs.0; clean = (carried_append limits xs ys w fair.clean).0 }, costs.1)
 
-script_from : (limits : Limits) (ts : List Turn) (ds : List Doing) (w : World) → IsUntouched limits w → IsFair limits (ts ++ all_turns limits ds (run limits ts w)) w → AllDrainsEndSo limits ds (run limits ts w)
+script_from : (limits : Capacity) (ts : List Turn) (ds : List Doing) (w : World) → IsUntouched limits w → IsFair limits (ts ++ all_turns limits ds (run limits ts w)) w → AllDrainsEndSo limits ds (run limits ts w)
 script_from limits ts [] w u fair = tt
 script_from limits ts (d ∷ ds) w u fair =
     let v = run limits ts w in
@@ -373,9 +373,9 @@ script_from limits ts (d ∷ ds) w u fair =
         by false h = drain_ends limits ts choice client most w u f h
 
 -- so in all drains of a script
-pub script_ends : (limits : Limits) (ds : List Doing) (w : World) → IsUntouched limits w → IsFair limits (all_turns limits ds w) w → AllDrainsEndSo limits ds w
+pub script_ends : (limits : Capacity) (ds : List Doing) (w : World) → IsUntouched limits w → IsFair limits (all_turns limits ds w) w → AllDrainsEndSo limits ds w
 script_ends limits ds w u fair = script_from limits [] ds w u fair
 
 -- also from the start
-pub start_ends : (limits : Limits) (ds : List Doing) → IsFair limits (all_turns limits ds start) start → AllDrainsEndSo limits ds start
+pub start_ends : (limits : Capacity) (ds : List Doing) → IsFair limits (all_turns limits ds start) start → AllDrainsEndSo limits ds start
 start_ends limits ds fair = script_ends limits ds start (start_untouched limits fair.within) fair

@@ -17,7 +17,7 @@ use Rattle.mqtt_rules.proofs.step_lemmas.acts.Leads.{row_among}
 use Rattle.mqtt_rules.specs.step.Contents.{HasContentsOf, IsCopiedOf, of_rows}
 use Rattle.mqtt_rules.specs.step.Laws.{IsAmong}
 use Rattle.mqtt_rules.specs.step.State.{Broker, entry_on, queue_on, queued_copy}
-use Rattle.mqtt_rules.specs.declared.step.Limits.{Limits}
+use Rattle.mqtt_rules.specs.declared.step.Capacity.{Capacity}
 use Rattle.mqtt_world_model.specs.model.Ends.{Receiver}
 use Rattle.mqtt_world_model.specs.model.World.{World, receiver_named}
 use Rattle.mqtt_world_laws.specs.receiver.Handing.{IsRun}
@@ -87,7 +87,7 @@ queue_over lots s b unsent queued = by (went_in s.birth b) queued
 
 -- ---- a receiver's copies
 
-module _ (client : List ℕ) (limits : Limits) where
+module _ (client : List ℕ) (limits : Capacity) where
   fit_row : (went : List ℕ) (row : CopyRow) → IsCopiedOf of_rows row.copy → RowOver row → IsFit ⊥ any_size row.phase (queued_copy row.copy).size
   fit_row went row copied over = record { released = by row.phase over; above = above_none row.copy copied }
     where

@@ -38,7 +38,7 @@ use Rattle.mqtt_rules.specs.step.Outbound.{all_turn_deeds, way_of}
 use Rattle.mqtt_rules.specs.step.Packets.{connack}
 use Rattle.mqtt_rules.specs.step.State.{Line as BrokerLine, Broker, Env, MemberChoice, is_of, line_at, line_of, queue_on, session_at, session_named, told_on}
 use Rattle.mqtt_rules.specs.step.Step.{Call, Input, Pump, at_moment, deeds, env_of, next_packet, on_pump}
-use Rattle.mqtt_rules.specs.declared.step.Limits.{Limits}
+use Rattle.mqtt_rules.specs.declared.step.Capacity.{Capacity}
 use Rattle.mqtt_rules.specs.step.Fitting.{fitted, pump_turns, size_at, sized}
 use Rattle.mqtt_world_laws.proofs.receiver_lemmas.queue.Pumps.{its_session}
 use Rattle.mqtt_world_laws.proofs.receiver_lemmas.connects.Resuming.{call_is, greeting}
@@ -184,7 +184,7 @@ HasFit large r b =
     (n : ℕ) (l : BrokerLine) (birth : ℕ) (s : Session) → r.line.number ≡ Some n → line_at n b ≡ Some l → l.session ≡ Some birth → session_at birth b.records ≡ Some s → s.client ≡ r.client
     → AreFit large l.largest (queue_on l.went s)
 
-module _ (large : Type 0) (limits : Limits) (choice : MemberChoice) (now : ℕ) (r : Receiver) (b : Broker) (fits : HasFit large r b) where
+module _ (large : Type 0) (limits : Capacity) (choice : MemberChoice) (now : ℕ) (r : Receiver) (b : Broker) (fits : HasFit large r b) where
   abbrev IsOwnCall : Call → Type 0
   IsOwnCall call = AreOwn large r.client (Some call) (deeds limits choice now call b)
 

@@ -15,7 +15,7 @@ use Rattle.mqtt_flow.specs.inbound.Identifiers.{is_among}
 use Rattle.mqtt_flow.specs.inbound.Line.{Link, away, asked, live}
 use Rattle.mqtt_rules.proofs.step_lemmas.numbers.Copies.{each_append}
 use Rattle.mqtt_rules.specs.step.Step.{Call, NewLine, stepped, told}
-use Rattle.mqtt_rules.specs.declared.step.Limits.{Limits}
+use Rattle.mqtt_rules.specs.declared.step.Capacity.{Capacity}
 use Rattle.mqtt_world_model.specs.model.Ends.{Back, Receiver, answers, asks_for, greeted, hears, new_receiver, reads_publish, receiver_connack, receiver_reads}
 use Rattle.mqtt_world_model.specs.model.Lines.{Down, Line, gives_up, joined, left}
 use Rattle.mqtt_world_model.specs.model.Run.{Turn, run, setting, turned}
@@ -137,7 +137,7 @@ links_say set (Some n) client clean w h =
 happens_say : (e : Event) (set : Setting) (w : World) → AllSay w → AllSay (happens set e w)
 happens_say (publisher client) set w h = h
 happens_say (receiver client window aliases) set w h = each_append Says w.receivers (new_receiver client window aliases w.broker.records.births ∷ []) h (record { up = tt; old = tt }, tt)
-happens_say (connect_end client clean) set w h = links_say set (next_line w.broker) client clean w h
+happens_say (connect_end client clean) set w h = links_say set (next_line set.limits w.broker) client clean w h
 happens_say (give_up client) set w h = on_lines client (λ l. gives_up l.link l) (λ l c. gives_carries SaysWell l c) w.receivers h
 happens_say (publish client d) set w h = h
 happens_say (subscribe client x) set w h =
@@ -150,7 +150,7 @@ happens_say (stop_before a) set w h = restarts_say set (before set a w) (before_
 happens_say (stop_after a) set w h = restarts_say set (first_step set a w) (first_say set a w h)
 
 -- behind a turn receivers have answered what they were sent
-pub turned_say : (limits : Limits) (t : Turn) (w : World) → AllSay w → AllSay (turned limits t w)
+pub turned_say : (limits : Capacity) (t : Turn) (w : World) → AllSay w → AllSay (turned limits t w)
 turned_say limits t w h = by (is_bad t.event w)
   where
     by : (bad : Bool) → AllSay (cond bad w (happens (setting limits t) t.event w))
@@ -158,7 +158,7 @@ turned_say limits t w h = by (is_bad t.event w)
     by false = happens_say t.event (setting limits t) w h
 
 -- so they have behind a run
-pub run_say : (limits : Limits) (ts : List Turn) (w : World) → AllSay w → AllSay (run limits ts w)
+pub run_say : (limits : Capacity) (ts : List Turn) (w : World) → AllSay w → AllSay (run limits ts w)
 run_say limits [] w h = h
 run_say limits (t ∷ ts) w h = run_say limits ts (turned limits t w) (turned_say limits t w h)
 

@@ -6,7 +6,7 @@ use Rattle.mqtt_world_model.specs.model.Run.{Turn, read_at, run, setting, turned
 use Rattle.mqtt_world_model.specs.model.World.{Setting, World, ask, calls, receiver_named, receiver_told, taken_up, to_broker}
 use Rattle.mqtt_rules.specs.step.State.{MemberChoice}
 use Rattle.mqtt_rules.specs.step.Step.{Input, told}
-use Rattle.mqtt_rules.specs.declared.step.Limits.{Limits}
+use Rattle.mqtt_rules.specs.declared.step.Capacity.{Capacity}
 use Rattle.mqtt_world_laws.specs.acceptance.Spending.{run_spends, spending}
 use Rattle.mqtt_world_laws.proofs.acceptance_lemmas.publishers.Runs.{either}
 use Rattle.mqtt_flow.specs.outbound.Receiver.{Answer}
@@ -20,7 +20,7 @@ use Rattle.mqtt_world_laws.specs.receiver.Connecting.{any_size}
 use Rattle.mqtt_world_laws.proofs.delivery_lemmas.others.Runs.{IsKept, turn_kept}
 use Rattle.mqtt_world_laws.proofs.drains_lemmas.Whereabouts.{Connected, IsOn, IsOnWith, connected_of, on_again}
 
-module _ (c : List ℕ) (limits : Limits) (choice : MemberChoice) where
+module _ (c : List ℕ) (limits : Capacity) (choice : MemberChoice) where
   abbrev pub reads_back : Turn
   reads_back = turn_of choice (ask (to_broker c))
 

@@ -6,7 +6,7 @@ use Rattle.mqtt_world_model.specs.model.Tellings.{queue_length}
 use Rattle.mqtt_world_model.specs.model.World.{World, receiver_named, start}
 use Rattle.mqtt_records.specs.declared.state.session.Session.{Session}
 use Rattle.mqtt_rules.specs.step.State.{MemberChoice, session_named}
-use Rattle.mqtt_rules.specs.declared.step.Limits.{Limits}
+use Rattle.mqtt_rules.specs.declared.step.Capacity.{Capacity}
 use Rattle.mqtt_world_laws.specs.acceptance.Copies.{entered_from}
 use Rattle.mqtt_world_laws.specs.acceptance.Fair.{IsFair}
 use Rattle.mqtt_world_laws.specs.acceptance.Spending.{run_spends}
@@ -50,7 +50,7 @@ session_there c w on = by (session_named c w.broker.records) refl
     by None e = let clash : true ≡ false = sym (over_of c w (ap copies_by e)) ∙ on in absurd cc
     by (Some s) e = refl
 
-module _ (c : List ℕ) (limits : Limits) (choice : MemberChoice) where
+module _ (c : List ℕ) (limits : Capacity) (choice : MemberChoice) where
   -- ---- with more rounds nothing more happens
 
   none_more : (most : ℕ) (w : World) → is_over c w ≡ true → (rounds_taken limits choice c most w ≡ 0) × (drained limits choice c most w ≡ w)
@@ -157,14 +157,14 @@ module _ (c : List ℕ) (limits : Limits) (choice : MemberChoice) where
 -- ---- in a run
 
 -- behind a fair run a drain empties the queue
-pub run_empties : (limits : Limits) (ts : List Turn) (choice : MemberChoice) (c : List ℕ) (most : ℕ) (w : World) → IsUntouched limits w → IsFair limits ts w
+pub run_empties : (limits : Capacity) (ts : List Turn) (choice : MemberChoice) (c : List ℕ) (most : ℕ) (w : World) → IsUntouched limits w → IsFair limits ts w
     → run_spends limits (round_turns limits choice c (run limits ts w)) (run limits ts w) ≡ false → is_bad_drain c (run limits ts w) ≡ false → EmptiesQueue limits choice c most (run limits ts w)
 run_empties limits ts choice c most w u fair unspent good = empties_if c limits choice most (run limits ts w) (fair_run_kept limits ts w u fair c) good (λ more is on. unspent)
 
 -- ---- in a script
 
 -- a drain that is not bad does, where no number is spent
-pub doing_empties : (limits : Limits) (d : Doing) (w : World) → ((c : List ℕ) → IsKept [] c limits w) → run_spends limits (turns_of limits d w) w ≡ false → EmptiesWhere limits d w
+pub doing_empties : (limits : Capacity) (d : Doing) (w : World) → ((c : List ℕ) → IsKept [] c limits w) → run_spends limits (turns_of limits d w) w ≡ false → EmptiesWhere limits d w
 doing_empties limits (happens t) w k u = tt
 doing_empties limits (drains choice c most) w k u = λ good.
     let goes : run_spends limits (drain_turns limits choice c most w) w ≡ false = subst (λ (bad : Bool). run_spends limits (cond bad [] (drain_turns limits choice c most w)) w ≡ false) good u in
@@ -174,7 +174,7 @@ doing_empties limits (drains choice c most) w k u = λ good.
     let first : run_spends limits (round_turns limits choice c w ++ rest) w ≡ false = subst (λ (t : Bool). run_spends limits (drain_by t (round_turns limits choice c w) rest) w ≡ false) on all in
     (spent_append limits (round_turns limits choice c w) rest w first).0)
 
-all_empty : (limits : Limits) (ds : List Doing) (w : World) → ((c : List ℕ) → IsKept [] c limits w) → run_spends limits (all_turns limits ds w) w ≡ false → are_beginnings_clean limits (all_turns limits ds w) w ≡ true → AllDrainsEmpty limits ds w
+all_empty : (limits : Capacity) (ds : List Doing) (w : World) → ((c : List ℕ) → IsKept [] c limits w) → run_spends limits (all_turns limits ds w) w ≡ false → are_beginnings_clean limits (all_turns limits ds w) w ≡ true → AllDrainsEmpty limits ds w
 all_empty limits [] w k unspent carried = tt
 all_empty limits (d ∷ ds) w k unspent carried =
     let turns = turns_of limits d w in
@@ -184,9 +184,9 @@ all_empty limits (d ∷ ds) w k unspent carried =
     (doing_empties limits d w k costs.0, all_empty limits ds v (λ c. run_kept [] c limits turns w (k c) costs.0 clean.0) costs.1 clean.1)
 
 -- so do all drains of a script
-pub script_empties : (limits : Limits) (ds : List Doing) (w : World) → IsUntouched limits w → IsFair limits (all_turns limits ds w) w → AllDrainsEmpty limits ds w
+pub script_empties : (limits : Capacity) (ds : List Doing) (w : World) → IsUntouched limits w → IsFair limits (all_turns limits ds w) w → AllDrainsEmpty limits ds w
 script_empties limits ds w u fair = all_empty limits ds w (λ c. untouched_kept c limits w fair.within u) fair.unspent fair.clean
 
 -- from nothing
-pub start_empties : (limits : Limits) (ds : List Doing) → IsFair limits (all_turns limits ds start) start → AllDrainsEmpty limits ds start
+pub start_empties : (limits : Capacity) (ds : List Doing) → IsFair limits (all_turns limits ds start) start → AllDrainsEmpty limits ds start
 start_empties limits ds fair = script_empties limits ds start (start_untouched limits fair.within) fair

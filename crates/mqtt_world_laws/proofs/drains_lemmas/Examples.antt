@@ -4,7 +4,7 @@ use Rattle.std.specs.Str.{is_utf8, chars}
 use Rattle.std.proofs.Math.Utf8.{encode}
 use Rattle.mqtt_base.specs.Values.{varint}
 use Rattle.mqtt_flow.specs.declared.outbound.entry.Full.TheVariants.{Drop}
-use Rattle.mqtt_rules.specs.declared.step.Limits.{Limits}
+use Rattle.mqtt_rules.specs.declared.step.Capacity.{Capacity}
 use Rattle.mqtt_rules.proofs.step_lemmas.examples.Play.{usual, first}
 use Rattle.mqtt_world_model.specs.model.Ends.{Draft}
 use Rattle.mqtt_world_model.specs.model.Run.{after}
@@ -22,7 +22,7 @@ record Drained : Type 0 where
   pub bad : Bool
   pub rounds_of_more : ℕ
 
-abbrev drains_from : Limits → World → Drained
+abbrev drains_from : Capacity → World → Drained
 drains_from limits w =
     let most = enough_rounds (copies_to_take limits first r1 w) in
     let last = drained limits first r1 most w in
@@ -80,7 +80,7 @@ renewed_it_is_emptied = refl
 
 -- ---- its SUBSCRIBE is under way, and its filter brings a copy more, for which the oldest that waits makes way
 
-abbrev pub dropping : Limits
+abbrev pub dropping : Capacity
 dropping = record usual { full = Drop; queue = 2 }
 
 abbrev kept_draft : Draft
@@ -98,7 +98,7 @@ with_one_brought = refl
 
 -- ---- there is no place for its session: its queue is empty, its CONNECT isn't read, and its line stands
 
-abbrev full_house : Limits
+abbrev full_house : Capacity
 full_house = record usual { sessions = 1 }
 
 abbrev no_place : List Event

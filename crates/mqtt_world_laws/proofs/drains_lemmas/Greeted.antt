@@ -14,7 +14,7 @@ use Rattle.mqtt_world_model.proofs.model_lemmas.seats.Seeing.{linked_is, linked_
 use Rattle.mqtt_records.specs.declared.state.session.Session.{Session}
 use Rattle.mqtt_rules.specs.step.State.{Broker, MemberChoice, session_named}
 use Rattle.mqtt_rules.specs.step.Step.{Input, told}
-use Rattle.mqtt_rules.specs.declared.step.Limits.{Limits}
+use Rattle.mqtt_rules.specs.declared.step.Capacity.{Capacity}
 use Rattle.mqtt_world_laws.proofs.acceptance_lemmas.publishers.Ends.{named_receiver}
 use Rattle.mqtt_world_laws.specs.receiver.Calls.{IsResuming}
 use Rattle.mqtt_world_laws.specs.receiver.Drains.{turn_of}
@@ -28,7 +28,7 @@ use Rattle.mqtt_world_laws.proofs.delivery_lemmas.others.Around.{its_place}
 use Rattle.mqtt_world_laws.proofs.delivery_lemmas.others.Runs.{IsKept}
 use Rattle.mqtt_world_laws.proofs.drains_lemmas.Whereabouts.{IsOn, Waits, placed_of}
 
-module _ (c : List ℕ) (limits : Limits) (choice : MemberChoice) (w : World) (kept : IsKept [] c limits w) (x : Waits c w) (session : is_some (session_named c w.broker.records) ≡ true) where
+module _ (c : List ℕ) (limits : Capacity) (choice : MemberChoice) (w : World) (kept : IsKept [] c limits w) (x : Waits c w) (session : is_some (session_named c w.broker.records) ≡ true) where
   abbrev r : Receiver
   r = x.receiver
 

@@ -15,7 +15,7 @@ use Rattle.mqtt_world_model.specs.model.Run.{Turn, run, turned}
 use Rattle.mqtt_world_model.specs.model.Seen.{heard_in}
 use Rattle.mqtt_world_model.specs.model.World.{World, end_reads, publisher_named, receiver_named, to_end}
 use Rattle.mqtt_rules.specs.step.State.{Broker, MemberChoice, session_named}
-use Rattle.mqtt_rules.specs.declared.step.Limits.{Limits}
+use Rattle.mqtt_rules.specs.declared.step.Capacity.{Capacity}
 use Rattle.mqtt_world_laws.specs.receiver.Drains.{all_to_end, downs_by, times, turn_of}
 use Rattle.mqtt_world_laws.proofs.receiver_lemmas.queue.Numbers.{place_of}
 use Rattle.mqtt_world_laws.proofs.receiver_lemmas.own.OwnDoings.{keeps_reading}
@@ -60,7 +60,7 @@ quiet_reading t (d ∷ rest) r is quiet =
 
 -- ---- all that is under way to it
 
-module _ (c : List ℕ) (limits : Limits) (choice : MemberChoice) where
+module _ (c : List ℕ) (limits : Capacity) (choice : MemberChoice) where
   abbrev reads_one : Turn
   reads_one = turn_of choice (to_end c)
 

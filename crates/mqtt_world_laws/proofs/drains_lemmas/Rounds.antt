@@ -5,7 +5,7 @@ use Rattle.mqtt_world_model.specs.model.Ends.{Receiver}
 use Rattle.mqtt_world_model.specs.model.Run.{run}
 use Rattle.mqtt_world_model.specs.model.World.{World, publisher_named, receiver_named}
 use Rattle.mqtt_rules.specs.step.State.{MemberChoice}
-use Rattle.mqtt_rules.specs.declared.step.Limits.{Limits}
+use Rattle.mqtt_rules.specs.declared.step.Capacity.{Capacity}
 use Rattle.mqtt_world_laws.specs.acceptance.Spending.{run_spends}
 use Rattle.mqtt_world_laws.specs.receiver.Drains.{after_round, all_to_broker, all_to_end, round_turns, times, ups_by}
 use Rattle.mqtt_world_laws.proofs.receiver_lemmas.drains.DrainRuns.{run_append}
@@ -18,7 +18,7 @@ use Rattle.mqtt_world_laws.proofs.drains_lemmas.Reading.{read_on, read_waits}
 use Rattle.mqtt_world_laws.proofs.drains_lemmas.Greeted.{greeted_is_on}
 use Rattle.mqtt_world_laws.proofs.drains_lemmas.Answering.{back_on, reads_back}
 
-module _ (c : List ℕ) (limits : Limits) (choice : MemberChoice) where
+module _ (c : List ℕ) (limits : Capacity) (choice : MemberChoice) where
   nobody : (w : World) → IsKept [] c limits w → (r : Receiver) → receiver_named c w ≡ Some r → publisher_named c w ≡ None
   nobody w kept r e = kept.stands.standing.around.alone (ap is_some e)
 

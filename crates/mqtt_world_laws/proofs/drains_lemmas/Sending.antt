@@ -9,14 +9,14 @@ use Rattle.mqtt_world_model.specs.model.World.{Setting, World, ask, calls, publi
 use Rattle.mqtt_rules.specs.step.Deeds.{Deed, with_line}
 use Rattle.mqtt_rules.specs.step.State.{Line as BrokerLine, Broker, MemberChoice, session_named}
 use Rattle.mqtt_rules.specs.step.Step.{Pump, at_moment, deeds, done, on_pump}
-use Rattle.mqtt_rules.specs.declared.step.Limits.{Limits}
+use Rattle.mqtt_rules.specs.declared.step.Capacity.{Capacity}
 use Rattle.mqtt_world_laws.specs.receiver.Drains.{turn_of}
 use Rattle.mqtt_world_laws.proofs.receiver_lemmas.queue.Numbers.{place_of}
 use Rattle.mqtt_world_laws.proofs.receiver_lemmas.drains.WorldRounds.{pump_is, pumps, receiver_called_is}
 use Rattle.mqtt_world_laws.specs.receiver.Connecting.{any_size}
 use Rattle.mqtt_world_laws.proofs.drains_lemmas.Whereabouts.{Connected, IsOnWith, MayEmpty, Waits, good_of, on_again}
 
-module _ (c : List ℕ) (limits : Limits) (choice : MemberChoice) where
+module _ (c : List ℕ) (limits : Capacity) (choice : MemberChoice) where
   abbrev pub sends : Turn
   sends = turn_of choice (ask (pump c))
 

@@ -15,7 +15,7 @@ use Rattle.mqtt_world_model.proofs.model_lemmas.seats.Seats.{idle_linked}
 use Rattle.mqtt_records.specs.state.Records.{subscribe_in}
 use Rattle.mqtt_rules.proofs.step_lemmas.flight.FlightRows.{all_more}
 use Rattle.mqtt_rules.specs.step.State.{Line as BrokerLine, Broker, line_at, session_named}
-use Rattle.mqtt_rules.specs.declared.step.Limits.{Limits}
+use Rattle.mqtt_rules.specs.declared.step.Capacity.{Capacity}
 use Rattle.mqtt_world_laws.proofs.acceptance_lemmas.publishers.Ends.{named_receiver}
 use Rattle.mqtt_world_laws.specs.receiver.Apart.{HasCome}
 use Rattle.mqtt_world_laws.specs.receiver.Drains.{is_bad_drain, line_stands}
@@ -98,7 +98,7 @@ on_again number largest window ids birth ns c up h w x = record {
 older : (publications subscribes : ℕ) (id : CopyId) → HasCome publications subscribes id → IsOlder subscribes id
 older publications subscribes id h = λ n is. subst (λ (k : Cause). subscribe_in k ≤ subscribes) is h.subscribe
 
-module _ (c : List ℕ) (limits : Limits) (w : World) (kept : IsKept [] c limits w) where
+module _ (c : List ℕ) (limits : Capacity) (w : World) (kept : IsKept [] c limits w) where
   abbrev s : Stands [] c any_size limits w
   s = kept.stands
 

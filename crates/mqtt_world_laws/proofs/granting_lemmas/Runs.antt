@@ -6,7 +6,7 @@ use Rattle.mqtt_rules.proofs.step_lemmas.numbers.Copies.{each_append}
 use Rattle.mqtt_rules.specs.step.Deeds.{Deed}
 use Rattle.mqtt_rules.specs.step.State.{Broker}
 use Rattle.mqtt_rules.specs.step.Step.{Call, NewLine, at_moment, deeds, env_of, opening_deeds, unopened}
-use Rattle.mqtt_rules.specs.declared.step.Limits.{Limits}
+use Rattle.mqtt_rules.specs.declared.step.Capacity.{Capacity}
 use Rattle.mqtt_rules.specs.telling.Meaning.{SendsItsTopic}
 use Rattle.mqtt_rules.specs.granting.Naming.{NamesTopics}
 use Rattle.mqtt_rules.proofs.granting_lemmas.Acts.{call_names, opening_names}
@@ -119,7 +119,7 @@ module _ (set : Setting) where
   happened : (e : Event) (w : World) → Holds w → Holds (happens set e w)
   happened (publisher d) w h = h
   happened (receiver d window aliases) w h = h
-  happened (connect_end d clean) w h = linked (next_line w.broker) d clean w h
+  happened (connect_end d clean) w h = linked (next_line set.limits w.broker) d clean w h
   happened (give_up d) w h = h
   happened (publish d x) w h = h
   happened (subscribe d x) w h = h
@@ -132,35 +132,35 @@ module _ (set : Setting) where
 
 -- ---- turns and runs
 
-turn_deeds : (limits : Limits) (t : Turn) (w : World) → Holds w → AllName (read_at the_deeds (setting limits t) t.event w)
+turn_deeds : (limits : Capacity) (t : Turn) (w : World) → Holds w → AllName (read_at the_deeds (setting limits t) t.event w)
 turn_deeds limits t w h = by (is_bad t.event w)
   where
     by : (bad : Bool) → AllName (cond bad [] (read_in the_deeds (setting limits t) t.event w))
     by true = tt
     by false = event_deeds (setting limits t) t.event w h
 
-turn_holds : (limits : Limits) (t : Turn) (w : World) → Holds w → Holds (turned limits t w)
+turn_holds : (limits : Capacity) (t : Turn) (w : World) → Holds w → Holds (turned limits t w)
 turn_holds limits t w h = by (is_bad t.event w)
   where
     by : (bad : Bool) → Holds (cond bad w (happens (setting limits t) t.event w))
     by true = h
     by false = happened (setting limits t) t.event w h
 
-run_deeds : (limits : Limits) (ts : List Turn) (w : World) → Holds w → AllName (deeds_over limits ts w)
+run_deeds : (limits : Capacity) (ts : List Turn) (w : World) → Holds w → AllName (deeds_over limits ts w)
 run_deeds limits [] w h = tt
 run_deeds limits (t ∷ ts) w h =
     join (read_at the_deeds (setting limits t) t.event w) (deeds_over limits ts (turned limits t w)) (turn_deeds limits t w h)
     (run_deeds limits ts (turned limits t w) (turn_holds limits t w h))
 
 -- a run keeps all topics named
-pub run_holds : (limits : Limits) (ts : List Turn) (w : World) → Holds w → Holds (run limits ts w)
+pub run_holds : (limits : Capacity) (ts : List Turn) (w : World) → Holds w → Holds (run limits ts w)
 run_holds limits [] w h = h
 run_holds limits (t ∷ ts) w h = run_holds limits ts (turned limits t w) (turn_holds limits t w h)
 
 -- its deeds send each PUBLISH with its topic
-pub run_topics : (limits : Limits) (ts : List Turn) (w : World) → Holds w → AllByRecursion SendsItsTopic (deeds_over limits ts w)
+pub run_topics : (limits : Capacity) (ts : List Turn) (w : World) → Holds w → AllByRecursion SendsItsTopic (deeds_over limits ts w)
 run_topics limits ts w h = sends_topics (deeds_over limits ts w) (run_deeds limits ts w h)
 
 -- also from the start
-pub start_topics : (limits : Limits) (ts : List Turn) → AllByRecursion SendsItsTopic (deeds_over limits ts start)
+pub start_topics : (limits : Capacity) (ts : List Turn) → AllByRecursion SendsItsTopic (deeds_over limits ts start)
 start_topics limits ts = run_topics limits ts start (record { stored = record { sessions = tt; retained = tt }; lines = tt })

@@ -1,6 +1,6 @@
 -- Both worlds begin alike, with nothing stored or on what earlier lives of the broker left (MQTT 5.0, 4.1).
 use Rattle.std.proofs.Common.{List, [], ◌∷◌, refl, sym, subst}
-use Rattle.mqtt_rules.specs.declared.step.Limits.{Limits}
+use Rattle.mqtt_rules.specs.declared.step.Capacity.{Capacity}
 use Rattle.mqtt_rules.specs.step.Laws.{AreWithin}
 use Rattle.mqtt_rules.specs.granting.Naming.{NamesTopics}
 use Rattle.mqtt_rules.proofs.granting_lemmas.Steps.{opening_named}
@@ -20,7 +20,7 @@ use Rattle.mqtt_world_laws.proofs.headline_in_forms_lemmas.Pairs.{Pair}
 use Rattle.mqtt_world_laws.proofs.headline_in_forms_lemmas.Scripts.{drains_fit, script_delivers}
 
 -- all that the broker holds names its topics
-lives_named : (limits : Limits) (ls : List BrokerLife) → NamesTopics (after_lives limits ls).broker
+lives_named : (limits : Capacity) (ls : List BrokerLife) → NamesTopics (after_lives limits ls).broker
 lives_named limits [] = record { stored = record { sessions = tt; retained = tt }; lines = tt }
 lives_named limits (l ∷ ls) =
     let w = after_lives l.limits ls in
@@ -30,7 +30,7 @@ lives_named limits (l ∷ ls) =
     opening_named limits l.choice l.now (after_doings l.limits l.doings w).broker.records last.stored
 
 -- nothing was told, and nobody is there
-pub lives_pair : (most : Most) (limits : Limits) (ls : List BrokerLife) → Pair most (begun (after_lives limits ls)) (after_lives limits ls)
+pub lives_pair : (most : Most) (limits : Capacity) (ls : List BrokerLife) → Pair most (begun (after_lives limits ls)) (after_lives limits ls)
 lives_pair most limits [] = record {
   goes = record { worlds = record { same = refl; publishers = tt; receivers = tt }; lines = record { unused = λ n less. refl; numbered = tt } };
   names = lives_named limits [];
@@ -47,21 +47,21 @@ lives_pair most limits (l ∷ ls) = record {
 }
 
 -- a fair script behind any lives delivers exactly once in forms
-pub forms_deliver : (most : Most) (limits : Limits) (ls : List BrokerLife) (ds : List Doing) → AreWithin limits → AreFairLives limits ls
+pub forms_deliver : (most : Most) (limits : Capacity) (ls : List BrokerLife) (ds : List Doing) → AreWithin limits → AreFairLives limits ls
     → IsFairScript limits ds (after_lives limits ls) → DoingsDeliver most limits ds (begun (after_lives limits ls))
 forms_deliver most limits ls ds within fair_lives fair =
     let w = after_lives limits ls in
     script_delivers most limits ds (begun w) w (lives_pair most limits ls) (lives_deliver limits ls ds within fair_lives fair)
 
 -- and no copy of its drains is too large
-pub forms_fit : (most : Most) (limits : Limits) (ls : List BrokerLife) (ds : List Doing) → AreWithin limits → AreFairLives limits ls
+pub forms_fit : (most : Most) (limits : Capacity) (ls : List BrokerLife) (ds : List Doing) → AreWithin limits → AreFairLives limits ls
     → IsFairScript limits ds (after_lives limits ls) → AllDrainsFit most limits ds (begun (after_lives limits ls))
 forms_fit most limits ls ds within fair_lives fair =
     let w = after_lives limits ls in
     drains_fit most limits ds (begun w) w (lives_pair most limits ls) (lives_fit limits ls ds within fair_lives fair)
 
 -- from nothing stored
-pub nothing_delivers : (most : Most) (limits : Limits) (ds : List Doing) → IsFairScript limits ds start → DoingsDeliver most limits ds start_as_sent
+pub nothing_delivers : (most : Most) (limits : Capacity) (ds : List Doing) → IsFairScript limits ds start → DoingsDeliver most limits ds start_as_sent
 nothing_delivers most limits ds fair =
     script_delivers most limits ds start_as_sent start (lives_pair most limits [])
     (meant_delivered.script_delivers limits ds start (start_begins limits fair.within) fair)

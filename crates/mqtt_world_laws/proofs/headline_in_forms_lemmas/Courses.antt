@@ -2,7 +2,7 @@
 use Rattle.std.proofs.Common.{◌≡◌, ℕ, List, [], ◌∷◌, ◌++◌, refl, sym, ap, ap₂, ◌∙◌}
 use Rattle.mqtt_rules.specs.step.Deeds.{Deed}
 use Rattle.mqtt_rules.specs.step.State.{Broker}
-use Rattle.mqtt_rules.specs.declared.step.Limits.{Limits}
+use Rattle.mqtt_rules.specs.declared.step.Capacity.{Capacity}
 use Rattle.mqtt_world_model.specs.model.Run.{Acceptance, From, Reading, Turn, accepted_at, deeds_at, each_from, each_of, message_read, read_at, setting, the_acceptances, the_deeds}
 use Rattle.mqtt_world_model.specs.model.Run as meant
 use Rattle.mqtt_world_model.specs.model.World.{World}
@@ -15,7 +15,7 @@ use Rattle.mqtt_world_laws.proofs.headline_in_forms_lemmas.Pairs.{Pair, pair_run
 use Rattle.mqtt_world_laws.proofs.headline_in_forms_lemmas.Readings.{LooksAtNone, acceptances_none, asked_none, deeds_none, message_same, read_same, steps_none}
 
 -- the course of a run of what packets mean
-abbrev pub meant_course : Limits → List Turn → World → Course
+abbrev pub meant_course : Capacity → List Turn → World → Course
 meant_course limits ts w = record {
   begin = w.broker;
   end = (meant.run limits ts w).broker;
@@ -25,7 +25,7 @@ meant_course limits ts w = record {
   asked = meant.read_over the_asked limits ts w;
 }
 
-module _ (most : Most) (limits : Limits) where
+module _ (most : Most) (limits : Capacity) where
   -- the broker is the same
   pub same_broker : (s : AsSent) (w : World) → Pair most s w → s.world.broker ≡ w.broker
   same_broker s w p = sym (ap (λ (y : World). y.broker) p.goes.worlds.same)

@@ -11,7 +11,7 @@ use Rattle.mqtt_rules.proofs.step_lemmas.numbers.Copies.{each_more}
 use Rattle.mqtt_rules.specs.step.Deeds.{At, Deed, Leave}
 use Rattle.mqtt_rules.specs.step.Laws.{FewOpen}
 use Rattle.mqtt_rules.specs.step.State.{Broker}
-use Rattle.mqtt_rules.specs.declared.step.Limits.{Limits}
+use Rattle.mqtt_rules.specs.declared.step.Capacity.{Capacity}
 use Rattle.mqtt_world_model.specs.model.Ends.{Content, Receiver}
 use Rattle.mqtt_world_model.specs.model.Laws.{WasTaken, fate_of}
 use Rattle.mqtt_world_model.specs.model.Lines.{Down}
@@ -98,7 +98,7 @@ module _ (r : Receiver) (downs : List Down) where
 
 -- ---- a run of what packets mean
 
-module _ (limits : Limits) (ts : List Turn) (w : World) where
+module _ (limits : Capacity) (ts : List Turn) (w : World) where
   as_intended : (a : Acceptance) → meant_intended.EntersAsIntended limits ts w a → EntersAsIntended (entered (meant_course limits ts w)) a
   as_intended a h = record {
     routing = h.routing;
@@ -143,13 +143,13 @@ module _ (limits : Limits) (ts : List Turn) (w : World) where
     left_waiting = h.left_waiting;
   }
 
-hands_from : (limits : Limits) (ys : List Turn) (v : World) (client : List ℕ) (q r : Receiver) → meant_delivery.HandsOverFrom limits ys v client q r
+hands_from : (limits : Capacity) (ys : List Turn) (v : World) (client : List ℕ) (q r : Receiver) → meant_delivery.HandsOverFrom limits ys v client q r
     → HandsOverFrom (meant_course limits ys v) client q r
 hands_from limits ys v client q r h = record { grows = h.grows; for_good = h.for_good; taken = h.taken; in_order = h.in_order }
 
 -- ---- the run in forms
 
-module _ (most : Most) (limits : Limits) (ts : List Turn) (s : AsSent) (w : World) (p : Pair most s w) (h : meant_delivery.DeliversExactlyOnce limits ts w) where
+module _ (most : Most) (limits : Capacity) (ts : List Turn) (s : AsSent) (w : World) (p : Pair most s w) (h : meant_delivery.DeliversExactlyOnce limits ts w) where
   abbrev then : AsSent
   then = run most limits ts s
 

@@ -3,7 +3,7 @@ use Rattle.std.proofs.Common.{◌≡◌, ◌≤◌, ◌+◌, ℕ, zero, suc, Boo
 use Rattle.std.specs.Prelude.{◌||◌}
 use Rattle.std.specs.List.{AllByRecursion}
 use Rattle.mqtt_rules.specs.step.State.{Broker, MemberChoice, session_named}
-use Rattle.mqtt_rules.specs.declared.step.Limits.{Limits}
+use Rattle.mqtt_rules.specs.declared.step.Capacity.{Capacity}
 use Rattle.mqtt_world_model.specs.model.Ends.{Receiver}
 use Rattle.mqtt_world_model.specs.model.Run.{Turn}
 use Rattle.mqtt_world_model.specs.model.Run as meant
@@ -33,7 +33,7 @@ line_at_broker None x w e = refl
 few : (a b c d : ℕ) → a ≡ c → b ≡ d → c ≤ enough_rounds d → a ≤ enough_rounds b
 few a b c d e f h = omega (arith, e, f, h)
 
-module _ (most : Most) (limits : Limits) (choice : MemberChoice) (client : List ℕ) where
+module _ (most : Most) (limits : Capacity) (choice : MemberChoice) (client : List ℕ) where
   stands_same : (s : AsSent) (w : World) → Pair most s w → line_stands (receiver_named client s.world) s.world ≡ line_stands (receiver_named client w) w
   stands_same s w p =
       same_stands (receiver_named client s.world) (receiver_named client w) s.world (same_receiver most s w client p.goes.worlds.receivers)
@@ -182,7 +182,7 @@ module _ (most : Most) (limits : Limits) (choice : MemberChoice) (client : List 
 
 -- ---- scripts
 
-module _ (most : Most) (limits : Limits) where
+module _ (most : Most) (limits : Capacity) where
   -- a doing is of the same events
   pub turns_same : (d : Doing) (s : AsSent) (w : World) → Pair most s w → turns_of most limits d s ≡ meant_drains.turns_of limits d w
   turns_same (happens t) s w p = refl

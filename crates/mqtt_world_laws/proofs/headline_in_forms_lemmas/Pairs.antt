@@ -2,7 +2,7 @@
 use Rattle.std.proofs.Common.{◌≡◌, List, [], ◌∷◌, ◌++◌, refl}
 use Rattle.mqtt_topic.specs.names.Aliases.{AliasTable}
 use Rattle.mqtt_rules.specs.step.State.{Telling}
-use Rattle.mqtt_rules.specs.declared.step.Limits.{Limits}
+use Rattle.mqtt_rules.specs.declared.step.Capacity.{Capacity}
 use Rattle.mqtt_rules.specs.granting.Naming.{NamesTopics}
 use Rattle.mqtt_world_model.specs.model.Ends.{Receiver}
 use Rattle.mqtt_world_model.specs.model.Run.{Turn}
@@ -21,14 +21,14 @@ pub record Pair (most : Most) (s : AsSent) (w : World) : Type 0 where
   pub names : NamesTopics w.broker
 
 -- so they are after the same turns
-pub pair_run : (most : Most) (limits : Limits) (ts : List Turn) (s : AsSent) (w : World) → Pair most s w → Pair most (run most limits ts s) (meant.run limits ts w)
+pub pair_run : (most : Most) (limits : Capacity) (ts : List Turn) (s : AsSent) (w : World) → Pair most s w → Pair most (run most limits ts s) (meant.run limits ts w)
 pair_run most limits ts s w p = record {
   goes = run_alike most limits ts s w p.goes (run_topics limits ts w p.names);
   names = run_holds limits ts w p.names;
 }
 
 -- and after the same turn
-pub pair_turn : (most : Most) (limits : Limits) (t : Turn) (s : AsSent) (w : World) → Pair most s w → Pair most (turned most limits t s) (meant.turned limits t w)
+pub pair_turn : (most : Most) (limits : Capacity) (t : Turn) (s : AsSent) (w : World) → Pair most s w → Pair most (turned most limits t s) (meant.turned limits t w)
 pair_turn most limits t s w p = pair_run most limits (t ∷ []) s w p
 
 all_understand : (most : Most) (ts : List Telling) (rs : List Receiver) (ks : List AliasTable) (vs : List Receiver) → AllReceiversAlike most ts rs ks vs → AllUnderstand rs ks
@@ -42,6 +42,6 @@ pub pair_understands : (most : Most) (s : AsSent) (w : World) → Pair most s w 
 pair_understands most s w p = all_understand most s.tellings s.world.receivers s.known w.receivers p.goes.worlds.receivers
 
 -- one run and then another is the run of both
-pub run_joined : (most : Most) (limits : Limits) (xs ys : List Turn) (s : AsSent) → run most limits (xs ++ ys) s ≡ run most limits ys (run most limits xs s)
+pub run_joined : (most : Most) (limits : Capacity) (xs ys : List Turn) (s : AsSent) → run most limits (xs ++ ys) s ≡ run most limits ys (run most limits xs s)
 run_joined most limits [] ys s = refl
 run_joined most limits (t ∷ xs) ys s = run_joined most limits xs ys (turned most limits t s)

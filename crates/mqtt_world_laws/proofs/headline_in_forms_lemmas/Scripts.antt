@@ -1,7 +1,7 @@
 -- What is delivered once by a script of what packets mean is so by the script in forms.
 use Rattle.std.proofs.Common.{List, [], ◌∷◌, sym, ap, subst, ◌∙◌}
 use Rattle.std.specs.List.{AllByRecursion}
-use Rattle.mqtt_rules.specs.declared.step.Limits.{Limits}
+use Rattle.mqtt_rules.specs.declared.step.Capacity.{Capacity}
 use Rattle.mqtt_world_model.specs.model.Run.{Turn}
 use Rattle.mqtt_world_model.specs.model.Run as meant
 use Rattle.mqtt_world_model.specs.model.World.{World}
@@ -20,7 +20,7 @@ use Rattle.mqtt_world_laws.proofs.headline_in_forms_lemmas.Delivered.{run_delive
 use Rattle.mqtt_world_laws.proofs.headline_in_forms_lemmas.Drains.{all_same, doing_pair, each_drains, script_is_run, turns_same}
 use Rattle.mqtt_world_laws.proofs.headline_in_forms_lemmas.Pairs.{Pair}
 
-module _ (most : Most) (limits : Limits) where
+module _ (most : Most) (limits : Capacity) where
   fit_where : (d : Doing) (s : AsSent) (w : World) → Pair most s w → meant_fitting.FitWhere limits d w → FitWhere most limits d s
   fit_where (happens t) s w p h = tt
   fit_where (drains choice client n) s w p h =

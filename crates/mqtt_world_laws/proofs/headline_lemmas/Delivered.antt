@@ -3,7 +3,7 @@ use Rattle.std.proofs.Common.{◌≡◌, ℕ, List, Some, sym, ap, subst, ◌∙
 use Rattle.std.proofs.lemmas.List.Elements.{All-from_recursion}
 use Rattle.mqtt_rules.proofs.step_lemmas.numbers.Copies.{each_more}
 use Rattle.mqtt_rules.specs.step.Laws.{AreWithin}
-use Rattle.mqtt_rules.specs.declared.step.Limits.{Limits}
+use Rattle.mqtt_rules.specs.declared.step.Capacity.{Capacity}
 use Rattle.mqtt_world_model.specs.model.Ends.{Content, Receiver}
 use Rattle.mqtt_world_model.specs.model.Laws.{AcceptedOnce, CarriesFrom, contents_by}
 use Rattle.mqtt_world_model.specs.model.Run.{Turn, from_over, run}
@@ -37,7 +37,7 @@ use Rattle.mqtt_world_laws.proofs.headline_lemmas.Lives.{lives_begin}
 
 -- ---- what the broker does, whatever ends do
 
-module _ (limits : Limits) (ts : List Turn) (w : World) (m : BeginsWell limits w) (h : IsCounted limits ts w) where
+module _ (limits : Capacity) (ts : List Turn) (w : World) (m : BeginsWell limits w) (h : IsCounted limits ts w) where
   -- in every run that spends no number exactly the intended copies enter, each once
   pub enters_all : EntersAllOnce limits ts w
   enters_all = record {
@@ -62,7 +62,7 @@ module _ (limits : Limits) (ts : List Turn) (w : World) (m : BeginsWell limits w
 
 -- ---- a run
 
-module _ (limits : Limits) (ts : List Turn) (w : World) (m : BeginsWell limits w) (fair : IsFair limits ts w) where
+module _ (limits : Capacity) (ts : List Turn) (w : World) (m : BeginsWell limits w) (fair : IsFair limits ts w) where
   all : DeliversOnce limits ts w
   all = run_delivers limits ts w m.untouched m.apart fair
 
@@ -101,7 +101,7 @@ module _ (limits : Limits) (ts : List Turn) (w : World) (m : BeginsWell limits w
 -- ---- a script
 
 -- a fair script that begins well delivers exactly once
-pub script_delivers : (limits : Limits) (ds : List Doing) (w : World) → BeginsWell limits w → IsFairScript limits ds w → DoingsDeliver limits ds w
+pub script_delivers : (limits : Capacity) (ds : List Doing) (w : World) → BeginsWell limits w → IsFairScript limits ds w → DoingsDeliver limits ds w
 script_delivers limits ds w m fair = record {
   is_run = drains_are_runs limits ds w;
   delivers = run_delivers_all limits (all_turns limits ds w) w m fair;
@@ -110,17 +110,17 @@ script_delivers limits ds w m fair = record {
 }
 
 -- so does one behind any lives of the broker
-pub lives_deliver : (limits : Limits) (ls : List BrokerLife) (ds : List Doing) → AreWithin limits → AreFairLives limits ls → IsFairScript limits ds (after_lives limits ls) → DoingsDeliver limits ds (after_lives limits ls)
+pub lives_deliver : (limits : Capacity) (ls : List BrokerLife) (ds : List Doing) → AreWithin limits → AreFairLives limits ls → IsFairScript limits ds (after_lives limits ls) → DoingsDeliver limits ds (after_lives limits ls)
 lives_deliver limits ls ds within h fair = script_delivers limits ds (after_lives limits ls) (lives_begin limits ls within h) fair
 
 -- and then no copy of a drain is too large
-pub lives_fit : (limits : Limits) (ls : List BrokerLife) (ds : List Doing) → AreWithin limits → AreFairLives limits ls → IsFairScript limits ds (after_lives limits ls) → AllDrainsFit limits ds (after_lives limits ls)
+pub lives_fit : (limits : Capacity) (ls : List BrokerLife) (ds : List Doing) → AreWithin limits → AreFairLives limits ls → IsFairScript limits ds (after_lives limits ls) → AllDrainsFit limits ds (after_lives limits ls)
 lives_fit limits ls ds within h fair = (lives_deliver limits ls ds within h fair).fit
 
 -- ---- from nothing stored
 
 -- in every fair run a message is accepted at most once
-pub accepted_once : (limits : Limits) (ts : List Turn) → IsFair limits ts start → AcceptedOnce limits ts
+pub accepted_once : (limits : Capacity) (ts : List Turn) → IsFair limits ts start → AcceptedOnce limits ts
 accepted_once limits ts fair =
     let new = start_new in
     let each = accepts_once limits ts start new fair in

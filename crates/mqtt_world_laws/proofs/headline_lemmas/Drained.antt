@@ -5,7 +5,7 @@ use Rattle.std.proofs.lemmas.List.{length-append}
 use Rattle.std.proofs.lemmas.List.Elements.{filter_map-append}
 use Rattle.mqtt_rules.specs.step.Deeds.{Deed}
 use Rattle.mqtt_rules.specs.step.State.{MemberChoice}
-use Rattle.mqtt_rules.specs.declared.step.Limits.{Limits}
+use Rattle.mqtt_rules.specs.declared.step.Capacity.{Capacity}
 use Rattle.mqtt_world_model.specs.model.Run.{Turn, deeds_at, deeds_over, entered_in, run, setting, turned}
 use Rattle.mqtt_world_model.specs.model.World.{World}
 use Rattle.mqtt_world_laws.specs.acceptance.Copies.{entered_from}
@@ -17,14 +17,14 @@ use Rattle.mqtt_world_laws.specs.headline.Delivery.{DrainsWhere, EachDrains, cop
 
 -- ---- the copies that enter in one run and then another
 
-deeds_joined : (limits : Limits) (xs ys : List Turn) (w : World) → deeds_over limits (xs ++ ys) w ≡ deeds_over limits xs w ++ deeds_over limits ys (run limits xs w)
+deeds_joined : (limits : Capacity) (xs ys : List Turn) (w : World) → deeds_over limits (xs ++ ys) w ≡ deeds_over limits xs w ++ deeds_over limits ys (run limits xs w)
 deeds_joined limits [] ys w = refl
 deeds_joined limits (t ∷ xs) ys w =
     let u = turned limits t w in
     let ds = deeds_at (setting limits t) t.event w in
     ap (λ (es : List Deed). ds ++ es) (deeds_joined limits xs ys u) ∙ sym (append_assoc ds (deeds_over limits xs u) (deeds_over limits ys (run limits xs u)))
 
-entered_joined : (limits : Limits) (xs ys : List Turn) (w : World) → length (entered_from limits (xs ++ ys) w) ≡ length (entered_from limits xs w) + length (entered_from limits ys (run limits xs w))
+entered_joined : (limits : Capacity) (xs ys : List Turn) (w : World) → length (entered_from limits (xs ++ ys) w) ≡ length (entered_from limits xs w) + length (entered_from limits ys (run limits xs w))
 entered_joined limits xs ys w =
     let ds = deeds_over limits xs w in
     let es = deeds_over limits ys (run limits xs w) in
@@ -33,7 +33,7 @@ entered_joined limits xs ys w =
 
 -- ---- a drain
 
-module _ (limits : Limits) (choice : MemberChoice) (c : List ℕ) where
+module _ (limits : Capacity) (choice : MemberChoice) (c : List ℕ) where
   -- those that enter in the first round enter in the drain
   few_rounds : (most : ℕ) (w : World) → rounds_taken limits choice c most w ≤ enough_rounds (copies_to_take limits choice c w) → rounds_taken limits choice c most w ≤ enough_rounds (copies_of_drain limits choice c most w)
   few_rounds zero w few = omega arith
@@ -60,7 +60,7 @@ module _ (limits : Limits) (choice : MemberChoice) (c : List ℕ) where
 
 -- ---- a script
 
-doing_drains : (limits : Limits) (d : Doing) (w : World) → EmptiesWhere limits d w → EndWhere limits d w → DrainsWhere limits d w
+doing_drains : (limits : Capacity) (d : Doing) (w : World) → EmptiesWhere limits d w → EndWhere limits d w → DrainsWhere limits d w
 doing_drains limits (happens t) w p q = tt
 doing_drains limits (drains choice c most) w p q = λ good.
     let e = p good in
@@ -71,6 +71,6 @@ doing_drains limits (drains choice c most) w p q = λ good.
     }
 
 -- a drain that ends with its causes and an empty queue is one
-pub each_drains : (limits : Limits) (ds : List Doing) (w : World) → AllDrainsEmpty limits ds w → AllDrainsEndSo limits ds w → EachDrains limits ds w
+pub each_drains : (limits : Capacity) (ds : List Doing) (w : World) → AllDrainsEmpty limits ds w → AllDrainsEndSo limits ds w → EachDrains limits ds w
 each_drains limits [] w p q = tt
 each_drains limits (d ∷ ds) w p q = (doing_drains limits d w p.0 q.0, each_drains limits ds (run limits (turns_of limits d w) w) p.1 q.1)

@@ -7,7 +7,7 @@ use Rattle.std.proofs.Math.Utf8.{encode}
 use Rattle.mqtt_base.specs.Values.{varint}
 use Rattle.mqtt_base.specs.declared.session.Qos.TheVariants.{AtLeastOnce}
 use Rattle.mqtt_flow.specs.inbound.Publisher.{completed, ended_1}
-use Rattle.mqtt_rules.specs.declared.step.Limits.{Limits}
+use Rattle.mqtt_rules.specs.declared.step.Capacity.{Capacity}
 use Rattle.mqtt_rules.specs.step.Laws.{AreWithin}
 use Rattle.mqtt_rules.proofs.step_lemmas.examples.Play.{first, usual}
 use Rattle.mqtt_world_model.specs.model.Ends.{Draft, Receiver}
@@ -56,7 +56,7 @@ abbrev pub second_life : List Doing
 second_life = map happens (turns others) ++ drains first r2 5 ∷ []
 
 -- opened under any limits: a word without arguments would be computed once, and the words of UTF-8 are shut in it
-abbrev pub opened_then : Limits → World
+abbrev pub opened_then : Capacity → World
 opened_then limits = after_lives limits (first_life ∷ [])
 
 -- one copy waits behind an opening
@@ -95,7 +95,7 @@ none_is_too_large = lives_fit usual (first_life ∷ []) second_life usual_within
 -- ---- three copies wait, and the broker is opened again where two may, and where a full queue drops: of the three two make way
 -- for the next one, and all of the law holds
 
-abbrev lower : Limits
+abbrev lower : Capacity
 lower = record dropping { sessions = 4 }
 
 abbrev life_of_three : BrokerLife
@@ -107,7 +107,7 @@ life_of_three = record {
   now = 0;
 }
 
-abbrev opened_there : Limits → World
+abbrev opened_there : Capacity → World
 opened_there limits = after_lives limits (life_of_three ∷ [])
 
 -- three copies wait under a limit of two

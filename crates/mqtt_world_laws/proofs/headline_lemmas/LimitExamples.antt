@@ -8,7 +8,7 @@ use Rattle.mqtt_base.specs.Values.{varint}
 use Rattle.mqtt_records.specs.state.Records.{nothing}
 use Rattle.mqtt_records.specs.declared.state.records.Records.{Records}
 use Rattle.mqtt_records.specs.declared.state.session.Session.{Session}
-use Rattle.mqtt_rules.specs.declared.step.Limits.{Limits}
+use Rattle.mqtt_rules.specs.declared.step.Capacity.{Capacity}
 use Rattle.mqtt_rules.proofs.step_lemmas.examples.Play.{away, first, usual}
 use Rattle.mqtt_world_model.specs.model.World.{Event, World, ask, clock, give_up, publish, publisher, tick}
 use Rattle.mqtt_world_model.specs.model.Run.{run}
@@ -16,7 +16,7 @@ use Rattle.mqtt_world_model.proofs.model_lemmas.examples.Scripts.{Sum, draft, ex
 use Rattle.mqtt_world_laws.specs.acceptance.Fair.{IsFair, opened_world}
 
 -- one session may stand
-abbrev small : Limits
+abbrev small : Capacity
 small = record usual { sessions = 1 }
 
 -- two do, whose lines are gone, and which expire five seconds after

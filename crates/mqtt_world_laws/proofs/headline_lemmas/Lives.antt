@@ -7,7 +7,7 @@ use Rattle.mqtt_rules.specs.step.Laws.{AreWithin}
 use Rattle.mqtt_rules.specs.step.Numbers.{HasAcceptedNumbers}
 use Rattle.mqtt_rules.specs.step.State.{Broker, MemberChoice}
 use Rattle.mqtt_rules.specs.step.Step.{is_opening_spent}
-use Rattle.mqtt_rules.specs.declared.step.Limits.{Limits}
+use Rattle.mqtt_rules.specs.declared.step.Capacity.{Capacity}
 use Rattle.mqtt_world_model.specs.model.Run.{Turn, run}
 use Rattle.mqtt_world_model.specs.model.World.{World, start}
 use Rattle.mqtt_world_laws.specs.acceptance.Fair.{IsFair, opened_world}
@@ -26,7 +26,7 @@ use Rattle.mqtt_world_laws.specs.headline.Lives.{AreFairLives, BeginsWell, Broke
 
 -- ---- copies that may come yet, over a run
 
-module _ (limits : Limits) (ts : List Turn) (w : World) (u : IsUntouched limits w) (fair : IsFair limits ts w) (apart : TellsApart w.broker.records) where
+module _ (limits : Capacity) (ts : List Turn) (w : World) (u : IsUntouched limits w) (fair : IsFair limits ts w) (apart : TellsApart w.broker.records) where
   abbrev last : Records
   last = (run limits ts w).broker.records
 
@@ -46,7 +46,7 @@ module _ (limits : Limits) (ts : List Turn) (w : World) (u : IsUntouched limits 
 abbrev Accepted : Broker → Type 0
 Accepted b = HasAcceptedNumbers b.records
 
-numbers_kept : (limits : Limits) → IsKept limits Accepted
+numbers_kept : (limits : Capacity) → IsKept limits Accepted
 numbers_kept limits = record {
   called = λ choice now call b s unspent h. step_accepted limits choice now call b h;
   reopened = λ choice now b s unspent h. opening_accepted limits choice now b.records h;
@@ -55,11 +55,11 @@ numbers_kept limits = record {
 -- ---- so it may begin
 
 -- the first life begins well
-pub start_begins : (limits : Limits) → AreWithin limits → BeginsWell limits start
+pub start_begins : (limits : Capacity) → AreWithin limits → BeginsWell limits start
 start_begins limits within = record { untouched = start_untouched limits within; apart = start_apart; numbers = (tt, tt) }
 
 -- under whatever limits
-pub run_begins_under : (limits others : Limits) (ts : List Turn) (choice : MemberChoice) (now : ℕ) (w : World) → BeginsWell limits w → IsFair limits ts w → AreWithin others → is_opening_spent others choice now (run limits ts w).broker.records ≡ false
+pub run_begins_under : (limits others : Capacity) (ts : List Turn) (choice : MemberChoice) (now : ℕ) (w : World) → BeginsWell limits w → IsFair limits ts w → AreWithin others → is_opening_spent others choice now (run limits ts w).broker.records ≡ false
     → BeginsWell others (opened_world others choice now (run limits ts w).broker.records)
 run_begins_under limits others ts choice now w m fair within unspent =
     let r = (run limits ts w).broker.records in
@@ -71,12 +71,12 @@ run_begins_under limits others ts choice now w m fair within unspent =
     }
 
 -- so does one that opens over what a fair run left
-pub run_begins : (limits : Limits) (ts : List Turn) (choice : MemberChoice) (now : ℕ) (w : World) → BeginsWell limits w → IsFair limits ts w → is_opening_spent limits choice now (run limits ts w).broker.records ≡ false
+pub run_begins : (limits : Capacity) (ts : List Turn) (choice : MemberChoice) (now : ℕ) (w : World) → BeginsWell limits w → IsFair limits ts w → is_opening_spent limits choice now (run limits ts w).broker.records ≡ false
     → BeginsWell limits (opened_world limits choice now (run limits ts w).broker.records)
 run_begins limits ts choice now w m fair unspent = run_begins_under limits limits ts choice now w m fair fair.within unspent
 
 -- and after any lives
-pub lives_begin : (limits : Limits) (ls : List BrokerLife) → AreWithin limits → AreFairLives limits ls → BeginsWell limits (after_lives limits ls)
+pub lives_begin : (limits : Capacity) (ls : List BrokerLife) → AreWithin limits → AreFairLives limits ls → BeginsWell limits (after_lives limits ls)
 lives_begin limits [] within h = start_begins limits within
 lives_begin limits (l ∷ ls) within h =
     let w = after_lives l.limits ls in

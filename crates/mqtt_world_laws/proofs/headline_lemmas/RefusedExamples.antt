@@ -16,7 +16,7 @@ use Rattle.mqtt_packet.specs.codec.Ack.{ack_at}
 use Rattle.mqtt_packet.specs.codec.Tails.{tail_at}
 use Rattle.mqtt_packet.specs.codec.Frames.{frame_at, body_at, versioned_at, lawful_at, packet_at}
 use Rattle.mqtt_packet.specs.stream.Front.{size_at, first_of}
-use Rattle.mqtt_rules.specs.declared.step.Limits.{Limits}
+use Rattle.mqtt_rules.specs.declared.step.Capacity.{Capacity}
 use Rattle.mqtt_rules.proofs.step_lemmas.examples.Play.{bytes, first, usual}
 use Rattle.mqtt_world_model.specs.model.Ends.{Draft}
 use Rattle.mqtt_world_model.specs.model.Run.{deeds_over, ended_in}
@@ -44,7 +44,7 @@ unanswered = record {
 }
 
 -- opened under any limits: a word without arguments would be computed once, and the words of UTF-8 are shut in it
-abbrev pub opened_then : Limits → World
+abbrev pub opened_then : Capacity → World
 opened_then limits = after_lives limits (unanswered ∷ [])
 
 -- ---- a second one: a stranger connects by that client identifier, and refuses what was sent

@@ -8,7 +8,7 @@ use Rattle.mqtt_records.specs.declared.state.change.Change.{Change}
 use Rattle.mqtt_records.specs.declared.state.records.Records.{Records}
 use Rattle.mqtt_topic.specs.names.Aliases.{AliasTable}
 use Rattle.mqtt_topic.specs.sending.Told.{none_told}
-use Rattle.mqtt_rules.specs.declared.step.Limits.{Limits}
+use Rattle.mqtt_rules.specs.declared.step.Capacity.{Capacity}
 use Rattle.mqtt_rules.specs.step.Deeds.{Deed, Greet, Link, On, after, after_all, rows_of_all}
 use Rattle.mqtt_rules.specs.step.State.{Broker, MemberChoice, told_on}
 use Rattle.mqtt_rules.specs.step.Step.{Call, Outcome, at_moment, deeds, done, env_of, opened, opening_deeds, stepped, told, unopened, with_moment}
@@ -110,7 +110,7 @@ untold_done n ds b none grants =
 
 -- ---- a call
 
-module _ (limits : Limits) (choice : MemberChoice) (now : ℕ) (call : Call) (b : Broker) (numbered : IsNumbered b) where
+module _ (limits : Capacity) (choice : MemberChoice) (now : ℕ) (call : Call) (b : Broker) (numbered : IsNumbered b) where
   good : AreGood (IsGiven b.given) (deeds limits choice now call b) (at_moment now b)
   good = call_given (env_of limits choice b) call (at_moment now b) numbered
 
@@ -135,7 +135,7 @@ paired [] h k = tt
 paired (m ∷ ms) h k = ((h.0, k.0), paired ms h.1 k.1)
 
 -- what goes out on a line is understood by who knows what was told there before
-understood_on : (limits : Limits) (choice : MemberChoice) (now : ℕ) (call : Call) (b : Broker) (n : ℕ) (known : AliasTable) → Knows known (told_on n b.tellings) → NamesTopics b → known.max < 2 ^ 16
+understood_on : (limits : Capacity) (choice : MemberChoice) (now : ℕ) (call : Call) (b : Broker) (n : ℕ) (known : AliasTable) → Knows known (told_on n b.tellings) → NamesTopics b → known.max < 2 ^ 16
     → TakesWithin n known.max call → IsUnderstoodOn n (told limits choice now call b).wires (told limits choice now call b).outputs known
 understood_on limits choice now call b n known knows names small takes =
     let ds = deeds limits choice now call b in
@@ -153,7 +153,7 @@ understood_on limits choice now call b n known knows names small takes =
 -- ---- and an opening
 
 -- nothing is told then on any line
-pub opened_untold : (limits : Limits) (choice : MemberChoice) (now : ℕ) (r : Records) (n : ℕ) → IsUntold n (opened limits choice now r)
+pub opened_untold : (limits : Capacity) (choice : MemberChoice) (now : ℕ) (r : Records) (n : ℕ) → IsUntold n (opened limits choice now r)
 opened_untold limits choice now r n =
     untold_done n (opening_deeds limits choice now r) (unopened now r) refl (opening_grants_none limits choice now n r)
 

@@ -13,7 +13,7 @@ use Rattle.mqtt_packet.specs.stream.Front.{first_of}
 use Rattle.mqtt_records.specs.declared.state.records.Records.{Records}
 use Rattle.mqtt_topic.specs.names.Aliases.{AliasTable, no_aliases}
 use Rattle.mqtt_topic.specs.declared.sending.told.TheConstants.{ALIAS_LIMIT}
-use Rattle.mqtt_rules.specs.declared.step.Limits.{Limits}
+use Rattle.mqtt_rules.specs.declared.step.Capacity.{Capacity}
 use Rattle.mqtt_rules.specs.step.Piece.{Front, call_by}
 use Rattle.mqtt_rules.specs.step.State.{Broker, MemberChoice}
 use Rattle.mqtt_rules.specs.step.Step.{Call, NewLine, Input, Lost, Pump, can_link, told}
@@ -217,17 +217,17 @@ module _ (takes : List ℕ → ℕ) (most : ℕ → ℕ) (set : Setting) (w : Wo
   linked = called takes most set NewLine w h (new_line_takes w)
 
   -- the number that it gets was not given before
-  given_next : can_link w.broker ≡ true → Linked.broker.given ≡ suc w.broker.given
+  given_next : can_link set.limits w.broker ≡ true → Linked.broker.given ≡ suc w.broker.given
   given_next can = rw can refl
 
   -- nothing was told there
   next_untold : IsUntold (suc w.broker.given) Linked.broker
-  next_untold = by (can_link w.broker) refl
+  next_untold = by (can_link set.limits w.broker) refl
     where
       none : IsUntold (suc w.broker.given) w.broker
       none = h.unused (suc w.broker.given) (omega arith)
 
-      by : (t : Bool) → can_link w.broker ≡ t → IsUntold (suc w.broker.given) Linked.broker
+      by : (t : Bool) → can_link set.limits w.broker ≡ t → IsUntold (suc w.broker.given) Linked.broker
       by true e = rw e none
       by false e = rw e none
 
@@ -240,7 +240,7 @@ module _ (takes : List ℕ → ℕ) (most : ℕ → ℕ) (set : Setting) (w : Wo
       by (Some n) low e = let same : n ≡ suc w.broker.given = cc in absurd (omega (arith, low, same))
 
   -- so it may be an end's, which knows nothing yet
-  next_own : (max : ℕ) → max ≡ most (suc w.broker.given) → can_link w.broker ≡ true → IsOwn Linked.broker w.strangers most (suc w.broker.given) (no_aliases max)
+  next_own : (max : ℕ) → max ≡ most (suc w.broker.given) → can_link set.limits w.broker ≡ true → IsOwn Linked.broker w.strangers most (suc w.broker.given) (no_aliases max)
   next_own max is can = let up = given_next can in record {
     knows = subst (Knows (no_aliases max)) (sym next_untold) (knows_nothing max);
     takes = is;
@@ -250,13 +250,13 @@ module _ (takes : List ℕ → ℕ) (most : ℕ → ℕ) (set : Setting) (w : Wo
 
 -- an end joins by a new line, on which it takes as many aliases as its name says
 links_knowing : (takes : List ℕ → ℕ) (most : ℕ → ℕ) (set : Setting) (client : List ℕ) (clean : Bool) (w : World) → AreKnowing takes most w
-    → HasKnowingEnds (links set (next_line w.broker) client clean w)
-links_knowing takes most set client clean w h = by (can_link w.broker) refl
+    → HasKnowingEnds (links set (next_line set.limits w.broker) client clean w)
+links_knowing takes most set client clean w h = by (can_link set.limits w.broker) refl
   where
     n : ℕ
     n = suc w.broker.given
 
-    by : (t : Bool) → can_link w.broker ≡ t → HasKnowingEnds (links set (cond t (Some n) None) client clean w)
+    by : (t : Bool) → can_link set.limits w.broker ≡ t → HasKnowingEnds (links set (cond t (Some n) None) client clean w)
     by false e = record { takes = takes; most = most; so = h }
     by true e = record {
       takes = takes;
@@ -337,7 +337,7 @@ module _ (takes : List ℕ → ℕ) (most : ℕ → ℕ) where
 
   -- bytes come from a stranger for the first time
   linked_first : (set : Setting) (name bytes : List ℕ) (w : World) → Know w → Know (linked_at set false name bytes w)
-  linked_first set name bytes w h = at (can_link w.broker) refl
+  linked_first set name bytes w h = at (can_link set.limits w.broker) refl
     where
       new : World
       new = calls set NewLine w
@@ -345,7 +345,7 @@ module _ (takes : List ℕ → ℕ) (most : ℕ → ℕ) where
       l : Know (calls set NewLine w)
       l = linked takes most set w h
 
-      at : (t : Bool) → can_link w.broker ≡ t → Know (record (calls set NewLine w) { strangers = w.strangers ++ record { name = name; number = cond t (Some (suc w.broker.given)) None; held = bytes } ∷ [] })
+      at : (t : Bool) → can_link set.limits w.broker ≡ t → Know (record (calls set NewLine w) { strangers = w.strangers ++ record { name = name; number = cond t (Some (suc w.broker.given)) None; held = bytes } ∷ [] })
       at t e =
           let s : Stranger = record { name = name; number = cond t (Some (suc w.broker.given)) None; held = bytes } in
           record {
@@ -368,7 +368,7 @@ module _ (takes : List ℕ → ℕ) (most : ℕ → ℕ) where
               each_both (At (calls set NewLine w).broker w.strangers) WasGivenTo (calls set NewLine w).publishers (calls set NewLine w).receivers l.ends
               (each_told (At w.broker w.strangers) WasGivenTo (calls set NewLine w).broker (told set.limits set.choice w.now NewLine w.broker) w.publishers w.receivers (λ x k. low w.broker x.number x.known k.line) h.ends)
 
-          given : (u : Bool) → can_link w.broker ≡ u → WasGiven (calls set NewLine w).broker.given (cond u (Some (suc w.broker.given)) None)
+          given : (u : Bool) → can_link set.limits w.broker ≡ u → WasGiven (calls set NewLine w).broker.given (cond u (Some (suc w.broker.given)) None)
           given true can = let up = given_next takes most set w h can in omega (arith, up)
           given false can = tt
 
@@ -725,7 +725,7 @@ happens_knowing set (stop_before a) w good h =
 happens_knowing set (stop_after a) w good h =
     record { takes = h.takes; most = h.most; so = restarts_by h.takes h.most set (first_step set a w) (first_by h.takes h.most set a w h.so) }
 
-turned_knowing : (limits : Limits) (t : Turn) (w : World) → HasKnowingEnds w → HasKnowingEnds (turned limits t w)
+turned_knowing : (limits : Capacity) (t : Turn) (w : World) → HasKnowingEnds w → HasKnowingEnds (turned limits t w)
 turned_knowing limits t w h = by (is_bad t.event w) refl
   where
     by : (bad : Bool) → is_bad t.event w ≡ bad → HasKnowingEnds (cond bad w (happens (setting limits t) t.event w))
@@ -733,12 +733,12 @@ turned_knowing limits t w h = by (is_bad t.event w) refl
     by false e = happens_knowing (setting limits t) t.event w e h
 
 -- in a run
-pub run_knowing : (limits : Limits) (ts : List Turn) (w : World) → HasKnowingEnds w → HasKnowingEnds (run limits ts w)
+pub run_knowing : (limits : Capacity) (ts : List Turn) (w : World) → HasKnowingEnds w → HasKnowingEnds (run limits ts w)
 run_knowing limits [] w h = h
 run_knowing limits (t ∷ ts) w h = run_knowing limits ts (turned limits t w) (turned_knowing limits t w h)
 
 -- from an opening
-pub opened_world_knowing : (limits : Limits) (choice : MemberChoice) (now : ℕ) (r : Records) → StoresNamed r → HasKnowingEnds (opened_world limits choice now r)
+pub opened_world_knowing : (limits : Capacity) (choice : MemberChoice) (now : ℕ) (r : Records) → StoresNamed r → HasKnowingEnds (opened_world limits choice now r)
 opened_world_knowing limits choice now r stored = record {
   takes = λ client. 0;
   most = λ n. 0;

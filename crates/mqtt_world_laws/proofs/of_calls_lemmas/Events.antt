@@ -3,7 +3,7 @@ use Rattle.std.proofs.Common.{List, [], ◌∷◌, arith}
 use Rattle.std.specs.Prelude.{flat_map}
 use Rattle.std.specs.List.{AllByRecursion}
 use Rattle.mqtt_flow.specs.declared.outbound.entry.Full.TheVariants.{Drop}
-use Rattle.mqtt_rules.specs.declared.step.Limits.{Limits}
+use Rattle.mqtt_rules.specs.declared.step.Capacity.{Capacity}
 use Rattle.mqtt_rules.specs.step.Deeds.{Deed}
 use Rattle.mqtt_rules.specs.step.Laws.{AreWithin, Asked as calls, Event, Reopened, after_event, after_events}
 use Rattle.mqtt_rules.specs.step.State.{Broker, Env}
@@ -33,13 +33,13 @@ events_steady (e ∷ es) b fair s = events_steady es (after_event e b) fair.1 (e
 -- ---- what each step does by its deeds, all do by theirs
 
 -- limits that there may be
-abbrev no_room : Limits
-no_room = record { queue = 0; full = Drop; sessions = 0; retained = 0 }
+abbrev no_room : Capacity
+no_room = record { queue = 0; full = Drop; sessions = 0; retained = 0; lines = 0 }
 
 none_within : AreWithin no_room
 none_within = record { queue = omega arith; sessions = omega arith; retained = omega arith }
 
-module _ (R : List Deed → Broker → Broker → Type 0) (walk : (limits : Limits) → AreWithin limits → Walk limits R) where
+module _ (R : List Deed → Broker → Broker → Type 0) (walk : (limits : Capacity) → AreWithin limits → Walk limits R) where
   -- over one
   pub event_walks : (e : Event) (b : Broker) → SpendsNone e b → IsSteady b → R (asked_at e b).step.deeds b (after_event e b)
   event_walks (calls limits choice now call) b fair s = (walk limits fair.0).call choice now call b s fair.1

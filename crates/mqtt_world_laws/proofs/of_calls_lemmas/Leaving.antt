@@ -4,7 +4,7 @@ use Rattle.std.specs.Prelude.{find}
 use Rattle.mqtt_records.specs.declared.state.records.Records.{Records}
 use Rattle.mqtt_records.specs.lists.Order.{IsBelow}
 use Rattle.mqtt_records.proofs.lists_lemmas.OrderLemmas.{apart}
-use Rattle.mqtt_rules.specs.declared.step.Limits.{Limits}
+use Rattle.mqtt_rules.specs.declared.step.Capacity.{Capacity}
 use Rattle.mqtt_rules.specs.step.Closing.{close}
 use Rattle.mqtt_rules.specs.step.Deeds.{Deed, with_line}
 use Rattle.mqtt_rules.specs.step.Laws.{AreWithin, Event, Reopened, after_event, after_events, blank}
@@ -27,7 +27,7 @@ spend_both (x ∷ xs) ys b p q = (p.0, spend_both xs ys (after_event x b) p.1 q)
 
 -- ---- what was left
 
-module _ (limits : Limits) (choice : MemberChoice) (now : ℕ) (r : Records) (left : IsLeftByCalls r) (within : AreWithin limits) (unspent : is_opening_spent limits choice now r ≡ false) where
+module _ (limits : Capacity) (choice : MemberChoice) (now : ℕ) (r : Records) (left : IsLeftByCalls r) (within : AreWithin limits) (unspent : is_opening_spent limits choice now r ≡ false) where
   abbrev before : Broker
   before = after_events left.events blank
 
@@ -58,7 +58,7 @@ no_line n (l ∷ ls) h =
     rw other (no_line n ls h.1)
 
 -- it is the loss of a line that was not given yet
-pub moment_alone : (limits : Limits) (choice : MemberChoice) (now : ℕ) (b : Broker) → BeginsInOrder b → (call : Call) × IsMomentAlone limits choice now call b
+pub moment_alone : (limits : Capacity) (choice : MemberChoice) (now : ℕ) (b : Broker) → BeginsInOrder b → (call : Call) × IsMomentAlone limits choice now call b
 moment_alone limits choice now b h = (Lost n, record { nothing = none_done; unspent = ap (λ (ds : List Deed). is_spent (rows_written ds (at_moment now b))) none_done; moment = ap (λ (ds : List Deed). done ds (at_moment now b)) none_done })
   where
     n : ℕ

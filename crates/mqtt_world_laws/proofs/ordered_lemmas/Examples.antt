@@ -6,7 +6,7 @@ use Rattle.std.specs.Str.{is_utf8, chars}
 use Rattle.std.proofs.Math.Utf8.{encode}
 use Rattle.mqtt_base.specs.Values.{varint}
 use Rattle.mqtt_flow.specs.inbound.Publisher.{completed, ended}
-use Rattle.mqtt_rules.specs.declared.step.Limits.{Limits}
+use Rattle.mqtt_rules.specs.declared.step.Capacity.{Capacity}
 use Rattle.mqtt_rules.proofs.step_lemmas.examples.Play.{usual}
 use Rattle.mqtt_world_model.specs.model.Ends.{Receiver}
 use Rattle.mqtt_world_model.specs.model.Laws.{fate_of}
@@ -20,7 +20,7 @@ use Rattle.mqtt_world_laws.specs.ordered.Ordered.{AreInOrder, WasAccepted, WereP
 use Rattle.mqtt_world_laws.proofs.ordered_lemmas.InOrder.{all_in_order}
 use Rattle.mqtt_world_laws.proofs.ordered_lemmas.Refusals.{never_refused}
 
-abbrev handed : Limits → List Event → Option (List ℕ)
+abbrev handed : Capacity → List Event → Option (List ℕ)
 handed limits es = option_map (λ (r : Receiver). publications_handed r) (receiver_named r1 (run limits (turns es) start))
 
 -- ---- two messages
@@ -109,7 +109,7 @@ they_were_published = record {
 -- ---- a message that is refused first
 
 -- a queue holds one copy
-abbrev small : Limits
+abbrev small : Capacity
 small = record usual { queue = 1 }
 
 -- r1 takes a copy

@@ -5,7 +5,7 @@ use Rattle.std.specs.List.{AllByRecursion}
 use Rattle.std.proofs.lemmas.Bool.{cases_Bool, eqb-true}
 use Rattle.std.proofs.lemmas.Cmp.{nat_eq_equiv}
 use Rattle.std.proofs.lemmas.List.Elements.{filter_map-append}
-use Rattle.mqtt_rules.specs.declared.step.Limits.{Limits}
+use Rattle.mqtt_rules.specs.declared.step.Capacity.{Capacity}
 use Rattle.mqtt_rules.specs.step.Deeds.{Accept, Deed, FromClient, FromWill}
 use Rattle.mqtt_rules.specs.step.Laws.{AreWithin, IsAmong}
 use Rattle.mqtt_rules.specs.step.Numbers.{CountsOn, publication_given}
@@ -75,7 +75,7 @@ split (x ∷ xs) t ys (u ∷ us) v vs e =
 
 -- ---- how often a message is accepted in them
 
-accepted_parts : (client : List ℕ) (limits : Limits) (xs ys : List Turn) (w : World) → accepted_over client limits (xs ++ ys) w ≡ accepted_over client limits xs w ++ accepted_over client limits ys (run limits xs w)
+accepted_parts : (client : List ℕ) (limits : Capacity) (xs ys : List Turn) (w : World) → accepted_over client limits (xs ++ ys) w ≡ accepted_over client limits xs w ++ accepted_over client limits ys (run limits xs w)
 accepted_parts client limits [] ys w = refl
 accepted_parts client limits (t ∷ xs) ys w =
     let v = turned limits t w in
@@ -90,7 +90,7 @@ some_counted n k (j ∷ ks) h =
     omega (arith, first, its)
 
 -- once more by a turn in which it is
-once_more : (client : List ℕ) (n number : ℕ) (limits : Limits) (earlier : List Turn) (turn : Turn) (later : List Turn) (w : World) → message_read client turn.event (run limits earlier w) ≡ Some n
+once_more : (client : List ℕ) (n number : ℕ) (limits : Capacity) (earlier : List Turn) (turn : Turn) (later : List Turn) (w : World) → message_read client turn.event (run limits earlier w) ≡ Some n
     → IsAmong number (filter_map client_number (deeds_at (setting limits turn) turn.event (run limits earlier w)))
     → times n (accepted_over client limits earlier w) + 1 ≤ times n (accepted_over client limits (earlier ++ turn ∷ later) w)
 once_more client n number limits earlier turn later w read among =
@@ -106,7 +106,7 @@ once_more client n number limits earlier turn later w read among =
 
 -- ---- a message that was accepted was first accepted as some publication
 
-further : (client : List ℕ) (n : ℕ) (limits : Limits) (t : Turn) (ts : List Turn) (w : World) → times n (accepted_at client (setting limits t) t.event w) ≡ 0 → ((number : ℕ) × WasFirstAccepted client n number limits ts (turned limits t w))
+further : (client : List ℕ) (n : ℕ) (limits : Capacity) (t : Turn) (ts : List Turn) (w : World) → times n (accepted_at client (setting limits t) t.event w) ≡ 0 → ((number : ℕ) × WasFirstAccepted client n number limits ts (turned limits t w))
     → (number : ℕ) × WasFirstAccepted client n number limits (t ∷ ts) w
 further client n limits t ts w not_now x =
     let a = x.1.accepted in (
@@ -127,7 +127,7 @@ further client n limits t ts w not_now x =
       },
     )
 
-here : (client : List ℕ) (n : ℕ) (limits : Limits) (t : Turn) (ts : List Turn) (w : World) → 1 ≤ times n (accepted_at client (setting limits t) t.event w) → (number : ℕ) × WasFirstAccepted client n number limits (t ∷ ts) w
+here : (client : List ℕ) (n : ℕ) (limits : Capacity) (t : Turn) (ts : List Turn) (w : World) → 1 ≤ times n (accepted_at client (setting limits t) t.event w) → (number : ℕ) × WasFirstAccepted client n number limits (t ∷ ts) w
 here client n limits t ts w some = by (message_read client t.event w) refl some
   where
     ds : List Deed
@@ -146,7 +146,7 @@ here client n limits t ts w some = by (message_read client t.event w) refl some
       | inr other ↦ let none = other_none n k (filter_map client_number ds) other in absurd (omega (arith, none, h))
     ]
 
-first_accepted : (client : List ℕ) (n : ℕ) (limits : Limits) (ts : List Turn) (w : World) → 1 ≤ times n (accepted_over client limits ts w) → (number : ℕ) × WasFirstAccepted client n number limits ts w
+first_accepted : (client : List ℕ) (n : ℕ) (limits : Capacity) (ts : List Turn) (w : World) → 1 ≤ times n (accepted_over client limits ts w) → (number : ℕ) × WasFirstAccepted client n number limits ts w
 first_accepted client n limits [] w some = let none : 1 ≤ 0 = some in absurd (omega (arith, none))
 first_accepted client n limits (t ∷ ts) w some = by (times n now) refl (λ not_now h. further client n limits t ts w not_now (first_accepted client n limits ts v h))
   where
@@ -160,12 +160,12 @@ first_accepted client n limits (t ∷ ts) w some = by (times n now) refl (λ not
     by zero none rest = let both = counted_append (nat_eq n) now (accepted_over client limits ts v) in rest none (omega (arith, both, none, some))
     by (suc k) is rest = here client n limits t ts w (omega (arith, is))
 
-was_accepted : (client : List ℕ) (n : ℕ) (limits : Limits) (ts : List Turn) (w : World) → 1 ≤ times n (accepted_over client limits ts w) → (number : ℕ) × WasAccepted client n number limits ts w
+was_accepted : (client : List ℕ) (n : ℕ) (limits : Capacity) (ts : List Turn) (w : World) → 1 ≤ times n (accepted_over client limits ts w) → (number : ℕ) × WasAccepted client n number limits ts w
 was_accepted client n limits ts w some = let x = first_accepted client n limits ts w some in (x.0, x.1.accepted)
 
 -- ---- a run
 
-module _ (limits : Limits) (ts : List Turn) (w : World) (begins : BeginsWell limits w) (fair : IsFair limits ts w) where
+module _ (limits : Capacity) (ts : List Turn) (w : World) (begins : BeginsWell limits w) (fair : IsFair limits ts w) where
   all : DeliversExactlyOnce limits ts w
   all = run_delivers_all limits ts w begins fair
 
@@ -322,9 +322,9 @@ module _ (limits : Limits) (ts : List Turn) (w : World) (begins : BeginsWell lim
   }
 
 -- and behind any lives of the broker
-pub lives_in_order : (limits : Limits) (ls : List BrokerLife) (ds : List Doing) → AreWithin limits → AreFairLives limits ls → IsFairScript limits ds (after_lives limits ls) → AreInOrder limits (all_turns limits ds (after_lives limits ls)) (after_lives limits ls)
+pub lives_in_order : (limits : Capacity) (ls : List BrokerLife) (ds : List Doing) → AreWithin limits → AreFairLives limits ls → IsFairScript limits ds (after_lives limits ls) → AreInOrder limits (all_turns limits ds (after_lives limits ls)) (after_lives limits ls)
 lives_in_order limits ls ds within h fair = all_in_order limits (all_turns limits ds (after_lives limits ls)) (after_lives limits ls) (lives_begin limits ls within h) fair
 
 -- and so at QoS 1
-pub lives_read_in_order : (limits : Limits) (ls : List BrokerLife) (ds : List Doing) → AreWithin limits → AreFairLives limits ls → IsFairScript limits ds (after_lives limits ls) → AreReadInOrder limits (all_turns limits ds (after_lives limits ls)) (after_lives limits ls)
+pub lives_read_in_order : (limits : Capacity) (ls : List BrokerLife) (ds : List Doing) → AreWithin limits → AreFairLives limits ls → IsFairScript limits ds (after_lives limits ls) → AreReadInOrder limits (all_turns limits ds (after_lives limits ls)) (after_lives limits ls)
 lives_read_in_order limits ls ds within h fair = all_read_in_order limits (all_turns limits ds (after_lives limits ls)) (after_lives limits ls) (lives_begin limits ls within h) fair

@@ -4,7 +4,7 @@ use Rattle.std.specs.Prelude.{count_by, filter_map, find}
 use Rattle.std.proofs.lemmas.Bool.{cases_Bool, eqb-true}
 use Rattle.std.proofs.lemmas.Cmp.{nat_eq_equiv}
 use Rattle.mqtt_records.proofs.lists_lemmas.OrderLemmas.{apart}
-use Rattle.mqtt_rules.specs.declared.step.Limits.{Limits}
+use Rattle.mqtt_rules.specs.declared.step.Capacity.{Capacity}
 use Rattle.mqtt_rules.specs.step.Deeds.{Deed}
 use Rattle.mqtt_world_model.specs.model.Ends.{Publisher}
 use Rattle.mqtt_world_model.specs.model.Run.{Turn, accepted_at, accepted_over, are_beginnings_clean, asked_from, begins_clean, client_number, deeds_at, each_of, front_message, front_of_line, front_of_old, message_read, read_at, run, setting, turned}
@@ -108,7 +108,7 @@ front_read c k (clock wait) w p e is = absurd cc
 front_read c k restart w p e is = absurd cc
 front_read c k (stop_before a) w p e is = absurd cc
 
-module _ (m n : ℕ) (less : m < n) (c : List ℕ) (limits : Limits) where
+module _ (m n : ℕ) (less : m < n) (c : List ℕ) (limits : Capacity) where
   abbrev pub Where : Type 0 → World → Type 0
   Where A w = In A (Stands m n A) c w
 

@@ -226,7 +226,7 @@ module _ (m n : ℕ) (less : m < n) (c : List ℕ) where
     pub event_stands : (e : Event) (w : World) → ((p : Publisher) → publisher_named c w ≡ Some p → IsCalm m p w.broker) → (message_read c e w ≡ Some m → ⊥) → In A (Stands m n A) c w → In A (Stands m n A) c (happens set e w)
     event_stands (publisher d) w calm none h = publisher_comes d w h
     event_stands (receiver d window aliases) w calm none h = h
-    event_stands (connect_end d clean) w calm none h = links_stand (next_line w.broker) d clean w h
+    event_stands (connect_end d clean) w calm none h = links_stand (next_line set.limits w.broker) d clean w h
     event_stands (give_up d) w calm none h =
         one_in A (Stands m n A) c d (λ p. record p { line = gives_up p.line.link p.line }) w.publishers w.broker (λ p. refl) (λ p x. given_up_stands m n less A w.broker p x) h
     event_stands (publish d x) w calm none h =

@@ -1,14 +1,14 @@
 -- Whether a run turned a message away, as it is computed (MQTT 5.0, 4.3.3).
 use Rattle.std.proofs.Common.{◌≡◌, ℕ, Bool, true, false, ◌||◌, ◌&&◌, List, [], ◌∷◌, ◌++◌, Option, Some, nat_eq, refl, sym, ap, subst, ◌∙◌, append-nil, append_assoc}
 use Rattle.std.proofs.lemmas.Cmp.{nat_eq_equiv}
-use Rattle.mqtt_rules.specs.declared.step.Limits.{Limits}
+use Rattle.mqtt_rules.specs.declared.step.Capacity.{Capacity}
 use Rattle.mqtt_world_model.specs.model.Run.{Turn, accepted_at, accepted_over, message_read, run, setting, turned}
 use Rattle.mqtt_world_model.specs.model.World.{World}
 use Rattle.mqtt_world_laws.specs.ordered.Ordered.{WasTurnedAway}
 use Rattle.mqtt_world_laws.proofs.ordered_lemmas.UnderWay.{is_number}
 use Rattle.mqtt_world_laws.proofs.ordered_lemmas.OrderRuns.{times}
 
-module _ (client : List ℕ) (n : ℕ) (limits : Limits) where
+module _ (client : List ℕ) (n : ℕ) (limits : Capacity) where
   -- a PUBLISH of the message is read, and it was not accepted by then
   abbrev refuses_at : List ℕ → Option ℕ → Bool
   refuses_at accepted read = is_number n read && nat_eq (times n accepted) 0

@@ -11,7 +11,7 @@ use Rattle.mqtt_records.specs.declared.state.session.Session.{Session}
 use Rattle.mqtt_records.specs.declared.state.subscription.Subscription.{Subscription}
 use Rattle.mqtt_routes.specs.routing.Retained.{kept_for}
 use Rattle.mqtt_topic.specs.names.Filters.{begins_share}
-use Rattle.mqtt_rules.specs.declared.step.Limits.{Limits}
+use Rattle.mqtt_rules.specs.declared.step.Capacity.{Capacity}
 use Rattle.mqtt_rules.specs.step.Deeds.{Accept, At, Begin, Deed, Subscribe, after, after_all, rows_of_all}
 use Rattle.mqtt_rules.specs.step.Routing.{CopyTo, is_queued, next_publication}
 use Rattle.mqtt_rules.specs.step.State.{Broker, Env, session_at}
@@ -182,7 +182,7 @@ step_rises env ds b told next =
     subst (λ (n : ℕ). Rises (last_of b) (own_numbers (entered ds)) n) (sym (stamped (rows_of_all ds b.records) (after_all ds b)))
     (subst (λ (cs : List CopyId). Rises (last_of b) (own_numbers cs) (last_of (after_all ds b))) (sym told) (rise env ds b next))
 
-rises : (limits : Limits) → Walk limits Rise
+rises : (limits : Capacity) → Walk limits Rise
 rises limits = record {
   none = λ b. none_rise (last_of b) (last_of b) (omega arith);
   next = λ xs ys a b d p q. subst (λ (ns : List ℕ). Rises (last_of a) ns (last_of d)) (sym (ap own_numbers (filter_map-append entered_in xs ys) ∙ own_append (entered xs) (entered ys)))
@@ -200,5 +200,5 @@ rises limits = record {
 }
 
 -- in every run that spends no number copies enter in the order in which their publications were accepted
-pub run_rises : (limits : Limits) (ts : List Turn) (w : World) → IsNew w → IsCounted limits ts w → IsRising (own_numbers (entered_from limits ts w))
+pub run_rises : (limits : Capacity) (ts : List Turn) (w : World) → IsNew w → IsCounted limits ts w → IsRising (own_numbers (entered_from limits ts w))
 run_rises limits ts w new fair = (run_walks Rise limits ts w (rises limits) new fair).rising

@@ -4,7 +4,7 @@ use Rattle.std.specs.Prelude.{⊤, find, filter_map, is_some}
 use Rattle.std.specs.List.{list_any}
 use Rattle.std.proofs.lemmas.Bool.{cases_Bool, eqb-true}
 use Rattle.mqtt_records.proofs.lists_lemmas.OrderLemmas.{apart}
-use Rattle.mqtt_rules.specs.declared.step.Limits.{Limits}
+use Rattle.mqtt_rules.specs.declared.step.Capacity.{Capacity}
 use Rattle.mqtt_rules.specs.step.Deeds.{At, Deed, Gone, Greet, Hear, Leave, LinePart, Link, On, Part, SetAlias, Went, after, after_all, closing, fresh_line, given_after, line_after, lines_at, on_line, rows_of_all, without_place}
 use Rattle.mqtt_rules.specs.step.State.{Broker, Env, Line, MemberChoice, is_of}
 use Rattle.mqtt_rules.specs.step.Step.{Call, at_moment, deeds, env_of, stepped, told}
@@ -144,7 +144,7 @@ module _ (n : ℕ) where
 -- ---- over a call
 
 -- a line of a number that was given, which stands behind a call
-pub stood_call : (limits : Limits) (choice : MemberChoice) (now : ℕ) (call : Call) (b : Broker) (x : Option ℕ) → ((n : ℕ) → x ≡ Some n → n ≤ b.given) → stands x (stepped limits choice now call b) ≡ true
+pub stood_call : (limits : Capacity) (choice : MemberChoice) (now : ℕ) (call : Call) (b : Broker) (x : Option ℕ) → ((n : ℕ) → x ≡ Some n → n ≤ b.given) → stands x (stepped limits choice now call b) ≡ true
     → (stands x b ≡ true) × (is_one_of x (told limits choice now call b).closed ≡ false)
 stood_call limits choice now call b None given h = absurd cc
 stood_call limits choice now call b (Some n) given h =

@@ -1,6 +1,6 @@
 -- After a drain nothing waits, so each copy has ended; and the law of scripts, after any lives (MQTT 5.0, 4.3, 4.4, 4.6).
 use Rattle.std.proofs.Common.{◌≡◌, ℕ, Bool, false, cond, List, [], ◌++◌, sym, ap, subst, ◌∙◌}
-use Rattle.mqtt_rules.specs.declared.step.Limits.{Limits}
+use Rattle.mqtt_rules.specs.declared.step.Capacity.{Capacity}
 use Rattle.mqtt_rules.specs.step.Laws.{AreWithin}
 use Rattle.mqtt_rules.specs.step.State.{MemberChoice}
 use Rattle.mqtt_world_model.specs.model.Run.{Turn, run}
@@ -18,7 +18,7 @@ use Rattle.mqtt_world_laws.specs.published.Published.{ArePassedOn, HasReceivedAl
 use Rattle.mqtt_world_laws.proofs.published_lemmas.Received.{all_passed_on}
 
 -- nothing waits for a receiver that was drained
-none_left : (limits : Limits) (ts : List Turn) (choice : MemberChoice) (reader : List ℕ) (most : ℕ) (w : World) → BeginsWell limits w → IsFair limits (ts ++ drain_turns limits choice reader most (run limits ts w)) w
+none_left : (limits : Capacity) (ts : List Turn) (choice : MemberChoice) (reader : List ℕ) (most : ℕ) (w : World) → BeginsWell limits w → IsFair limits (ts ++ drain_turns limits choice reader most (run limits ts w)) w
     → is_bad_drain reader (run limits ts w) ≡ false → HasEnough limits choice reader most (run limits ts w) → waiting_for reader (run limits (ts ++ drain_turns limits choice reader most (run limits ts w)) w) ≡ 0
 none_left limits ts choice reader most w m fair good enough =
     let v = run limits ts w in
@@ -30,12 +30,12 @@ none_left limits ts choice reader most w m fair good enough =
     ap (waiting_for reader) (run_append limits ts turns w) ∙ empties.empty enough
 
 -- after a drain each copy for its receiver has ended
-pub drain_received : (limits : Limits) (ts : List Turn) (choice : MemberChoice) (reader : List ℕ) (most : ℕ) (w : World) → BeginsWell limits w → IsFair limits (ts ++ drain_turns limits choice reader most (run limits ts w)) w
+pub drain_received : (limits : Capacity) (ts : List Turn) (choice : MemberChoice) (reader : List ℕ) (most : ℕ) (w : World) → BeginsWell limits w → IsFair limits (ts ++ drain_turns limits choice reader most (run limits ts w)) w
     → is_bad_drain reader (run limits ts w) ≡ false → HasEnough limits choice reader most (run limits ts w) → HasReceivedAll reader limits (ts ++ drain_turns limits choice reader most (run limits ts w)) w
 drain_received limits ts choice reader most w m fair good enough client n p q r e f s =
     let zs = ts ++ drain_turns limits choice reader most (run limits ts w) in
     ((all_passed_on limits zs w m fair).reaches client n p reader q r e f s).emptied (none_left limits ts choice reader most w m fair good enough)
 
 -- behind any lives of the broker what is published is received
-pub lives_passed_on : (limits : Limits) (ls : List BrokerLife) (ds : List Doing) → AreWithin limits → AreFairLives limits ls → IsFairScript limits ds (after_lives limits ls) → ArePassedOn limits (all_turns limits ds (after_lives limits ls)) (after_lives limits ls)
+pub lives_passed_on : (limits : Capacity) (ls : List BrokerLife) (ds : List Doing) → AreWithin limits → AreFairLives limits ls → IsFairScript limits ds (after_lives limits ls) → ArePassedOn limits (all_turns limits ds (after_lives limits ls)) (after_lives limits ls)
 lives_passed_on limits ls ds within h fair = all_passed_on limits (all_turns limits ds (after_lives limits ls)) (after_lives limits ls) (lives_begin limits ls within h) fair

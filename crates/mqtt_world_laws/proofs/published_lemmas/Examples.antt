@@ -7,7 +7,7 @@ use Rattle.std.proofs.Math.Utf8.{encode}
 use Rattle.mqtt_base.specs.Values.{varint}
 use Rattle.mqtt_flow.specs.inbound.Publisher.{completed, ended}
 use Rattle.mqtt_rules.proofs.step_lemmas.examples.Play.{usual}
-use Rattle.mqtt_rules.specs.declared.step.Limits.{Limits}
+use Rattle.mqtt_rules.specs.declared.step.Capacity.{Capacity}
 use Rattle.mqtt_rules.specs.step.Laws.{IsAmong}
 use Rattle.mqtt_rules.specs.step.State.{session_at, session_named}
 use Rattle.mqtt_world_model.specs.model.Ends.{Receiver}
@@ -50,7 +50,7 @@ it_is_passed_on = all_passed_on usual (turns whole) start (start_begins usual us
 
 -- ---- what the law asks of r1 is so
 
-abbrev before_it : Limits → World
+abbrev before_it : Capacity → World
 before_it limits = run limits (turns published) start
 
 abbrev reading : Turn

@@ -17,7 +17,7 @@ use Rattle.mqtt_records.specs.declared.state.change.Change.{Change}
 use Rattle.mqtt_records.specs.declared.state.records.Records.{Records}
 use Rattle.mqtt_records.specs.declared.state.session.Columns.{Columns}
 use Rattle.mqtt_records.specs.declared.state.session.Session.{Session}
-use Rattle.mqtt_rules.specs.declared.step.Limits.{Limits}
+use Rattle.mqtt_rules.specs.declared.step.Capacity.{Capacity}
 use Rattle.mqtt_rules.specs.step.Deeds.{Accept, At, Begin, Close, Count, Deed, DropWill, Enter, Finish, Forget, Gone, Keep, Leave, Link, Mark, Name, On, Open, Part, RefuseWill, Release, Resume, Send, SetExpiry, Subscribe, Unsubscribe, Whose, after, after_all, new_entry, part_rows, part_rows_of, rows_of_all, stored_after}
 use Rattle.mqtt_rules.specs.step.Laws.{AreWithin}
 use Rattle.mqtt_rules.specs.step.State.{Broker, Env, session_at}
@@ -230,7 +230,7 @@ module _ (c : CopyId) (name : List ℕ) where
         ends = subst (AllByRecursion IsHis) (ends_counted m ds b) (counted_ends (ends_of m ds b) causes s.ends);
       })
 
-  names : (limits : Limits) → AreWithin limits → Walk limits Names
+  names : (limits : Capacity) → AreWithin limits → Walk limits Names
   names limits within = record {
     none = λ b given h. record { given = given; named = h; ends = tt };
     next = λ xs ys a b d p q given h.
@@ -260,6 +260,6 @@ module _ (c : CopyId) (name : List ℕ) where
   }
 
   -- in a run that spends no number each end of the copy is his
-  pub run_leaves : (limits : Limits) (ts : List Turn) (w : World) → AreWithin limits → IsSteady w.broker → run_spends limits ts w ≡ false → c.birth ≤ w.broker.records.births → AreNamed w.broker.records.sessions
+  pub run_leaves : (limits : Capacity) (ts : List Turn) (w : World) → AreWithin limits → IsSteady w.broker → run_spends limits ts w ≡ false → c.birth ≤ w.broker.records.births → AreNamed w.broker.records.sessions
       → Leaves (deeds_over limits ts w) (run limits ts w).broker
   run_leaves limits ts w within s unspent given h = (run_goes Names limits (names limits within) ts w within s unspent).said given h

@@ -4,7 +4,7 @@ use Rattle.std.specs.Prelude.{filter_map}
 use Rattle.std.proofs.lemmas.List.{map-append}
 use Rattle.std.proofs.lemmas.List.Elements.{filter_map-append}
 use Rattle.mqtt_base.specs.declared.session.CopyId.{CopyId}
-use Rattle.mqtt_rules.specs.declared.step.Limits.{Limits}
+use Rattle.mqtt_rules.specs.declared.step.Capacity.{Capacity}
 use Rattle.mqtt_rules.specs.step.Deeds.{Deed}
 use Rattle.mqtt_rules.specs.step.Laws.{IsAmong}
 use Rattle.mqtt_rules.specs.step.Numbers.{CountsOn}
@@ -20,7 +20,7 @@ use Rattle.mqtt_world_laws.proofs.published_lemmas.Direct.{among_right}
 -- ---- one run and then another
 
 -- its deeds are those of both
-pub deeds_parts : (limits : Limits) (xs ys : List Turn) (w : World) → deeds_over limits (xs ++ ys) w ≡ deeds_over limits xs w ++ deeds_over limits ys (run limits xs w)
+pub deeds_parts : (limits : Capacity) (xs ys : List Turn) (w : World) → deeds_over limits (xs ++ ys) w ≡ deeds_over limits xs w ++ deeds_over limits ys (run limits xs w)
 deeds_parts limits [] ys w = refl
 deeds_parts limits (t ∷ xs) ys w =
     let u = turned limits t w in
@@ -36,7 +36,7 @@ abbrev pub copies_of : List End → List CopyId
 copies_of es = map (λ (e : End). e.copy) es
 
 -- a copy has ended in both as often as in each
-pub ended_parts : (c : CopyId) (limits : Limits) (xs ys : List Turn) (w : World) → count_of c (ended_from limits (xs ++ ys) w) ≡ count_of c (ended_from limits xs w) + count_of c (ended_from limits ys (run limits xs w))
+pub ended_parts : (c : CopyId) (limits : Capacity) (xs ys : List Turn) (w : World) → count_of c (ended_from limits (xs ++ ys) w) ≡ count_of c (ended_from limits xs w) + count_of c (ended_from limits ys (run limits xs w))
 ended_parts c limits xs ys w =
     let ds = deeds_over limits xs w in
     let es = deeds_over limits ys (run limits xs w) in
@@ -45,7 +45,7 @@ ended_parts c limits xs ys w =
     ∙ (ap (count_of c) (map-append (λ (e : End). e.copy) (ends_in ds) (ends_in es)) ∙ count_append c (copies_of (ends_in ds)) (copies_of (ends_in es))))
 
 -- an acceptance of one turn is one of the run
-pub acceptance_later : (a : Acceptance) (limits : Limits) (xs : List Turn) (t : Turn) (ys : List Turn) (w : World) → IsAmong a (acceptances_over limits (t ∷ []) (run limits xs w)) → IsAmong a (acceptances_over limits (xs ++ t ∷ ys) w)
+pub acceptance_later : (a : Acceptance) (limits : Capacity) (xs : List Turn) (t : Turn) (ys : List Turn) (w : World) → IsAmong a (acceptances_over limits (t ∷ []) (run limits xs w)) → IsAmong a (acceptances_over limits (xs ++ t ∷ ys) w)
 acceptance_later a limits [] t ys w h = among_front (read_at the_acceptances (setting limits t) t.event w) h
   where
     among_front : (zs : List Acceptance) → IsAmong a (zs ++ []) → IsAmong a (zs ++ acceptances_over limits ys (turned limits t w))

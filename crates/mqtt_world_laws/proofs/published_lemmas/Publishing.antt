@@ -3,7 +3,7 @@ use Rattle.std.proofs.Common.{◌≡◌, ℕ, zero, suc, ◌≤◌, Bool, false,
 use Rattle.std.specs.Prelude.{count_by, filter_map}
 use Rattle.std.specs.List.{AllByRecursion}
 use Rattle.std.proofs.lemmas.Bool.{cases_Bool, eqb-true}
-use Rattle.mqtt_rules.specs.declared.step.Limits.{Limits}
+use Rattle.mqtt_rules.specs.declared.step.Capacity.{Capacity}
 use Rattle.mqtt_rules.specs.step.Deeds.{Accept, Deed, FromClient, FromWill, Message}
 use Rattle.mqtt_rules.specs.step.Laws.{AreWithin, IsAmong}
 use Rattle.mqtt_rules.proofs.step_lemmas.fit.FitLaw.{all_among}
@@ -75,7 +75,7 @@ none_counted n m (k ∷ ks) other =
 
 module _ (client : List ℕ) (n : ℕ) (P : From → Type 0) where
   -- the message was accepted in this turn, and this holds of it
-  pub record IsPublished (limits : Limits) (ts : List Turn) (w : World) : Type 0 where
+  pub record IsPublished (limits : Capacity) (ts : List Turn) (w : World) : Type 0 where
     pub earlier : List Turn
     pub turn : Turn
     pub later : List Turn
@@ -85,7 +85,7 @@ module _ (client : List ℕ) (n : ℕ) (P : From → Type 0) where
     pub accepted : IsAmong acceptance (acceptances_over limits (turn ∷ []) (run limits earlier w))
     pub holds : P (from_message n acceptance.message)
 
-  here : (limits : Limits) (t : Turn) (ts : List Turn) (w : World) → AreWithin limits → IsSteady w.broker → read_at spending (setting limits t) t.event w ≡ false
+  here : (limits : Capacity) (t : Turn) (ts : List Turn) (w : World) → AreWithin limits → IsSteady w.broker → read_at spending (setting limits t) t.event w ≡ false
       → 1 ≤ count_by (nat_eq n) (accepted_at client (setting limits t) t.event w)
       → AllByRecursion P (each_from (message_read client t.event w) (deeds_at (setting limits t) t.event w)) → IsPublished limits (t ∷ ts) w
   here limits t ts w within s unspent some all = by (message_read client t.event w) refl some all
@@ -129,7 +129,7 @@ module _ (client : List ℕ) (n : ℕ) (P : From → Type 0) where
           of_it : message_read client t.event w ≡ Some n → 1 ≤ count_by (nat_eq n) (each_of (Some n) ds) → AllByRecursion P (each_from (Some n) ds) → IsPublished limits (t ∷ ts) w
           of_it read h q = made read (is_said n ds h) (λ m among. all_among P (from_message n m) (each_from (Some n) ds) q (mapped_among (from_message n) m (filter_map client_message ds) among))
 
-  further : (limits : Limits) (t : Turn) (ts : List Turn) (w : World) → IsPublished limits ts (turned limits t w) → IsPublished limits (t ∷ ts) w
+  further : (limits : Capacity) (t : Turn) (ts : List Turn) (w : World) → IsPublished limits ts (turned limits t w) → IsPublished limits (t ∷ ts) w
   further limits t ts w x = record {
     earlier = t ∷ x.earlier;
     turn = x.turn;
@@ -142,7 +142,7 @@ module _ (client : List ℕ) (n : ℕ) (P : From → Type 0) where
   }
 
   -- a message that was accepted in a run was so in one of its turns
-  pub was_published : (limits : Limits) (ts : List Turn) (w : World) → AreWithin limits → IsSteady w.broker → run_spends limits ts w ≡ false
+  pub was_published : (limits : Capacity) (ts : List Turn) (w : World) → AreWithin limits → IsSteady w.broker → run_spends limits ts w ≡ false
       → 1 ≤ count_by (nat_eq n) (accepted_over client limits ts w) → AllByRecursion P (from_over client limits ts w) → IsPublished limits ts w
   was_published limits [] w within s unspent some all = let none : 1 ≤ 0 = some in absurd (omega (arith, none))
   was_published limits (t ∷ ts) w within s unspent some all =

@@ -11,7 +11,7 @@ use Rattle.mqtt_base.specs.declared.session.Ending.{Ending}
 use Rattle.mqtt_base.specs.declared.session.Ending.TheVariants.{Taken, Refused, Expired, TooLarge, SessionEnded, Dropped}
 use Rattle.mqtt_base.specs.declared.session.Qos.{Qos}
 use Rattle.mqtt_records.specs.declared.state.session.Session.{Session}
-use Rattle.mqtt_rules.specs.declared.step.Limits.{Limits}
+use Rattle.mqtt_rules.specs.declared.step.Capacity.{Capacity}
 use Rattle.mqtt_rules.specs.step.Deeds.{Deed}
 use Rattle.mqtt_rules.specs.step.State.{Broker, session_named}
 use Rattle.mqtt_rules.specs.step.Laws.{IsAmong}
@@ -64,7 +64,7 @@ end_says Dropped qos c r taken expired dropped = dropped refl
 
 -- ---- a run
 
-module _ (limits : Limits) (ts : List Turn) (w : World) (m : BeginsWell limits w) (fair : IsFair limits ts w) where
+module _ (limits : Capacity) (ts : List Turn) (w : World) (m : BeginsWell limits w) (fair : IsFair limits ts w) where
   all : DeliversExactlyOnce limits ts w
   all = run_delivers_all limits ts w m fair
 

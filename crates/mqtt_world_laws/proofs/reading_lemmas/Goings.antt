@@ -5,7 +5,7 @@ use Rattle.std.specs.List.{AllByRecursion}
 use Rattle.mqtt_flow.specs.outbound.Receiver.{connect}
 use Rattle.mqtt_rules.proofs.step_lemmas.numbers.Copies.{each_append}
 use Rattle.mqtt_rules.specs.step.Step.{Call, NewLine, can_link, stepped, told}
-use Rattle.mqtt_rules.specs.declared.step.Limits.{Limits}
+use Rattle.mqtt_rules.specs.declared.step.Capacity.{Capacity}
 use Rattle.mqtt_world_model.specs.model.Ends.{Receiver, answers, new_receiver, receiver_reads}
 use Rattle.mqtt_world_model.specs.model.Lines.{gives_up, joined, left}
 use Rattle.mqtt_world_model.specs.model.Run.{Turn, read_asked, read_at, read_first, read_if, read_in, read_opening, read_rest, run, setting, turned}
@@ -115,7 +115,7 @@ module _ (set : Setting) where
       }
       by false =
           let x = linking_going w h in
-          let s : Stranger = record { name = name; number = cond (can_link w.broker) (Some (suc w.broker.given)) None; held = bytes } in
+          let s : Stranger = record { name = name; number = cond (can_link set.limits w.broker) (Some (suc w.broker.given)) None; held = bytes } in
           record { sends = x.sends; receivers = x.receivers; strangers = each_append HoldsBytes w.strangers (s ∷ []) h.strangers (said, tt) }
 
   before_going : (a : Asking) (w : World) → is_bad_asking a w ≡ false → IsGoing w → IsGoing (before set a w)
@@ -199,7 +199,7 @@ module _ (set : Setting) where
     lawful = tt;
     going = record { sends = h.sends; receivers = each_append IsFine w.receivers (new_receiver d window aliases w.broker.records.births ∷ []) h.receivers (new_fine d window aliases w.broker.records.births, tt); strangers = h.strangers };
   }
-  happens_goes (connect_end d clean) w good taken unspent h = record { lawful = (tt, tt); going = links_going (next_line w.broker) d clean w h }
+  happens_goes (connect_end d clean) w good taken unspent h = record { lawful = (tt, tt); going = links_going (next_line set.limits w.broker) d clean w h }
   happens_goes (give_up d) w good taken unspent h = record {
     lawful = tt;
     going = with_receivers d (λ r. record r { line = gives_up r.line.link r.line }) w (happens set (give_up d) w) gives_fine refl refl refl h;
@@ -225,7 +225,7 @@ module _ (set : Setting) where
 
 -- ---- a turn, and a run
 
-turn_goes : (limits : Limits) (t : Turn) (w : World) → AreTaken w → read_at spending (setting limits t) t.event w ≡ false → IsGoing w → Goes (setting limits t) (read_at the_asked (setting limits t) t.event w) (turned limits t w)
+turn_goes : (limits : Capacity) (t : Turn) (w : World) → AreTaken w → read_at spending (setting limits t) t.event w ≡ false → IsGoing w → Goes (setting limits t) (read_at the_asked (setting limits t) t.event w) (turned limits t w)
 turn_goes limits t w taken unspent h = by (is_bad t.event w) refl unspent
   where
     set : Setting
@@ -241,15 +241,15 @@ taken_of w h = record { publishers = from_publishers w h.ends; receivers = from_
 going_of : (w : World) → GoesWell w → IsGoing w
 going_of w h = record { sends = h.sends; receivers = h.receivers; strangers = h.strangers }
 
-goes_at : (limits : Limits) (t : Turn) (w : World) → GoesWell w → read_at spending (setting limits t) t.event w ≡ false → Goes (setting limits t) (read_at the_asked (setting limits t) t.event w) (turned limits t w)
+goes_at : (limits : Capacity) (t : Turn) (w : World) → GoesWell w → read_at spending (setting limits t) t.event w ≡ false → Goes (setting limits t) (read_at the_asked (setting limits t) t.event w) (turned limits t w)
 goes_at limits t w h unspent = turn_goes limits t w (taken_of w h) unspent (going_of w h)
 
 -- what an event makes the broker read is lawful
-pub turn_reads : (limits : Limits) (t : Turn) (w : World) → GoesWell w → read_at spending (setting limits t) t.event w ≡ false → AllByRecursion ReadsLawful (read_at the_asked (setting limits t) t.event w)
+pub turn_reads : (limits : Capacity) (t : Turn) (w : World) → GoesWell w → read_at spending (setting limits t) t.event w ≡ false → AllByRecursion ReadsLawful (read_at the_asked (setting limits t) t.event w)
 turn_reads limits t w h unspent = (goes_at limits t w h unspent).lawful
 
 -- behind an event all goes well still
-pub turn_well : (limits : Limits) (t : Turn) (w : World) → GoesWell w → read_at spending (setting limits t) t.event w ≡ false → GoesWell (turned limits t w)
+pub turn_well : (limits : Capacity) (t : Turn) (w : World) → GoesWell w → read_at spending (setting limits t) t.event w ≡ false → GoesWell (turned limits t w)
 turn_well limits t w h unspent =
     let going = (goes_at limits t w h unspent).going in
     record { sends = going.sends; ends = turned_sound limits t w h.ends; receivers = going.receivers; strangers = going.strangers }
@@ -268,12 +268,12 @@ pub well_taken : (w : World) → GoesWell w → TakesAllUnderWay w
 well_taken w h d = view_well d w (taken_of w h) (going_of w h)
 
 -- a run, and the world that it leaves
-pub record GoesOn (limits : Limits) (ts : List Turn) (w : World) : Type 0 where
+pub record GoesOn (limits : Capacity) (ts : List Turn) (w : World) : Type 0 where
   pub lawful : AllReadLawful limits ts w
   pub going : GoesWell (run limits ts w)
 
 -- from where all goes well each run goes on well
-pub goes_on : (limits : Limits) (ts : List Turn) (w : World) → GoesWell w → run_spends limits ts w ≡ false → GoesOn limits ts w
+pub goes_on : (limits : Capacity) (ts : List Turn) (w : World) → GoesWell w → run_spends limits ts w ≡ false → GoesOn limits ts w
 goes_on limits [] w h unspent = record { lawful = tt; going = h }
 goes_on limits (t ∷ ts) w h unspent =
     let u = turned limits t w in

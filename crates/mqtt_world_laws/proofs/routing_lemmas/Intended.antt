@@ -11,7 +11,7 @@ use Rattle.mqtt_routes.specs.routing.Acceptance.{Served, Routed}
 use Rattle.mqtt_routes.specs.routing.Subscriptions.{AreAfter, AreInOrder}
 use Rattle.mqtt_records.specs.lists.Distinct.{AllDiffer}
 use Rattle.mqtt_records.specs.lists.Order.{IsAbove, IsAscending}
-use Rattle.mqtt_rules.specs.declared.step.Limits.{Limits}
+use Rattle.mqtt_rules.specs.declared.step.Capacity.{Capacity}
 use Rattle.mqtt_rules.specs.step.Laws.{IsAmong}
 use Rattle.mqtt_rules.specs.step.Routing.{CopyTo, copies_to, accepted_if, accepted_copies, finds_place, routing_of, next_publication, answers, publication_of, subscriber_of, subscribers}
 use Rattle.mqtt_rules.proofs.step_lemmas.numbers.Copies.{each_more}
@@ -134,7 +134,7 @@ module _ (xs : List Step) (copies : List CopyId) (accepted : List Acceptance) wh
 
 -- ---- a run
 
-module _ (limits : Limits) (ts : List Turn) (w : World) (new : IsNew w) (fair : IsCounted limits ts w) where
+module _ (limits : Capacity) (ts : List Turn) (w : World) (new : IsNew w) (fair : IsCounted limits ts w) where
   it : Accepts (deeds_over limits ts w) (steps_over limits ts w) (acceptances_over limits ts w)
   it = run_accepts limits ts w new fair
 
@@ -154,7 +154,7 @@ module _ (limits : Limits) (ts : List Turn) (w : World) (new : IsNew w) (fair : 
 -- ---- from nothing stored
 
 -- in every run that spends no number the copies of a publication are those that were meant
-pub copies_once : (limits : Limits) (ts : List Turn) → IsCounted limits ts start → CopiesOnce limits ts
+pub copies_once : (limits : Capacity) (ts : List Turn) → IsCounted limits ts start → CopiesOnce limits ts
 copies_once limits ts fair = record {
   entered = All-from_recursion (EnteredOnce limits ts) (acceptances_over limits ts start)
       (each_more (EntersAsIntended limits ts start) (EnteredOnce limits ts) (λ a x. record { copies = intended_for a x.routing; routed_is = x.copies_are; entered_is = x.entered_is })

@@ -15,7 +15,7 @@ use Rattle.mqtt_records.specs.declared.state.records.Records.{Records}
 use Rattle.mqtt_records.specs.declared.state.session.Session.{Session}
 use Rattle.mqtt_records.specs.lists.Order.{IsAscending, row_at}
 use Rattle.mqtt_topic.specs.names.Names.{is_empty}
-use Rattle.mqtt_rules.specs.declared.step.Limits.{Limits}
+use Rattle.mqtt_rules.specs.declared.step.Capacity.{Capacity}
 use Rattle.mqtt_rules.specs.step.Closing.{end_session, is_due, end_due, has_due_end}
 use Rattle.mqtt_rules.specs.step.Connect.{expiry_of, will_of, greet, begin_named, connack_properties}
 use Rattle.mqtt_rules.specs.step.Deeds.{Whose, whose, Message, Origin, Subscribe, Part, Resume, Open, Close, Leave, SetAlias, Hear, Deed, Accept, Name, Count, At, Finish, Forget, RefuseWill, Link, On, Send, rows_of_all, after, after_all, series}
@@ -259,7 +259,7 @@ stamped_autos [] b = refl
 stamped_autos (x ∷ rows) b = refl
 
 -- a call leaves each session on one line
-pub call_unique : (limits : Limits) (choice : MemberChoice) (now : ℕ) (call : Call) (b : Broker) → AreWithin limits → IsSteady b → is_step_spent limits choice now call b ≡ false
+pub call_unique : (limits : Capacity) (choice : MemberChoice) (now : ℕ) (call : Call) (b : Broker) → AreWithin limits → IsSteady b → is_step_spent limits choice now call b ≡ false
     → AllByRecursion IsUnique (acceptances_of (env_of limits choice b) (deeds limits choice now call b) (at_moment now b))
 call_unique limits choice now call b within s unspent =
     let c = at_moment now b in

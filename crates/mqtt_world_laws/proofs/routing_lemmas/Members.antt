@@ -13,7 +13,7 @@ use Rattle.mqtt_rules.specs.step.Lines.{HasUniqueLines}
 use Rattle.mqtt_rules.specs.step.Packets.{quality}
 use Rattle.mqtt_rules.specs.step.Routing.{copy_to, served_copies_to, is_queued_at, is_there, answers, publication_of, subscribers}
 use Rattle.mqtt_rules.specs.step.State.{Broker, Env, Line, line_of, session_at, is_connected}
-use Rattle.mqtt_rules.specs.declared.step.Limits.{Limits}
+use Rattle.mqtt_rules.specs.declared.step.Capacity.{Capacity}
 use Rattle.mqtt_rules.proofs.step_lemmas.numbers.Copies.{each_append}
 use Rattle.mqtt_rules.proofs.step_lemmas.lines.LineLaw.{line_found}
 use Rattle.mqtt_world_model.specs.model.Run.{Turn, Acceptance, acceptances_over}
@@ -96,5 +96,5 @@ all_have copies [] p q = tt
 all_have copies (a ∷ rest) p q = (have_lines copies a p.0 q.0, all_have copies rest p.1 q.1)
 
 -- in every run that spends no number the members that are asked for stand as they were found
-pub all_have_lines : (limits : Limits) (ts : List Turn) (w : World) → IsNew w → IsCounted limits ts w → AllHaveLines limits ts w
+pub all_have_lines : (limits : Capacity) (ts : List Turn) (w : World) → IsNew w → IsCounted limits ts w → AllHaveLines limits ts w
 all_have_lines limits ts w new fair = all_have (entered_from limits ts w) (acceptances_over limits ts w) (run_intended limits ts w new fair) (run_accepts limits ts w new fair).lined

@@ -5,7 +5,7 @@ use Rattle.std.specs.List.{AllByRecursion, cons_option}
 use Rattle.std.proofs.lemmas.Grind.{flat_map-append}
 use Rattle.std.proofs.lemmas.List.{map-append}
 use Rattle.std.proofs.lemmas.List.Elements.{filter_map-append}
-use Rattle.mqtt_rules.specs.declared.step.Limits.{Limits}
+use Rattle.mqtt_rules.specs.declared.step.Capacity.{Capacity}
 use Rattle.mqtt_rules.specs.step.State.{Broker, Env}
 use Rattle.mqtt_rules.specs.step.Deeds.{Accept, Deed, Link, Message, after}
 use Rattle.mqtt_rules.specs.step.Laws.{AreWithin}
@@ -28,7 +28,7 @@ abbrev pub Any : List Deed → Broker → Broker → Type 0
 Any ds b d = ⊤
 
 -- every walk takes such steps
-pub anything : (limits : Limits) → Walk limits Any
+pub anything : (limits : Capacity) → Walk limits Any
 anything limits = record {
   none = λ b. tt;
   next = λ xs ys a b d p q. tt;
@@ -102,7 +102,7 @@ module _ (set : Setting) (within : AreWithin set.limits) where
 
   -- a new line accepts nothing
   line_accepts : (w : World) → Accepts (deeds set.limits set.choice w.now NewLine w.broker) (step_called set NewLine w ∷ []) []
-  line_accepts w = by (can_link w.broker)
+  line_accepts w = by (can_link set.limits w.broker)
     where
       of_deeds : List Deed → Step
       of_deeds ds = record { env = env_of set.limits set.choice w.broker; deeds = ds; broker = at_moment w.now w.broker }
@@ -163,7 +163,7 @@ module _ (set : Setting) (within : AreWithin set.limits) where
 
 -- ---- a turn, and a run
 
-turn_accepts : (limits : Limits) (t : Turn) (w : World) → AreWithin limits → IsSteady w.broker → read_at spending (setting limits t) t.event w ≡ false
+turn_accepts : (limits : Capacity) (t : Turn) (w : World) → AreWithin limits → IsSteady w.broker → read_at spending (setting limits t) t.event w ≡ false
     → Accepts (deeds_at (setting limits t) t.event w) (read_at the_steps (setting limits t) t.event w) (read_at the_acceptances (setting limits t) t.event w)
 turn_accepts limits t w within s unspent = by (is_bad t.event w) unspent
   where
@@ -176,7 +176,7 @@ turn_accepts limits t w within s unspent = by (is_bad t.event w) unspent
     by false u = event_accepts set within t.event w s u
 
 -- from whatever world, if its tables are in order
-pub all_accept : (limits : Limits) (ts : List Turn) (w : World) → AreWithin limits → IsSteady w.broker → run_spends limits ts w ≡ false → Accepts (deeds_over limits ts w) (steps_over limits ts w) (acceptances_over limits ts w)
+pub all_accept : (limits : Capacity) (ts : List Turn) (w : World) → AreWithin limits → IsSteady w.broker → run_spends limits ts w ≡ false → Accepts (deeds_over limits ts w) (steps_over limits ts w) (acceptances_over limits ts w)
 all_accept limits [] w within s unspent = none_accept
 all_accept limits (t ∷ ts) w within s unspent =
     let v = turned limits t w in
@@ -186,5 +186,5 @@ all_accept limits (t ∷ ts) w within s unspent =
     (read_at the_acceptances (setting limits t) t.event w) (acceptances_over limits ts v) (turn_accepts limits t w within s costs.0) (all_accept limits ts v within next.steady costs.1)
 
 -- in every run that spends no number what entered is what acceptances meant
-pub run_accepts : (limits : Limits) (ts : List Turn) (w : World) → IsNew w → IsCounted limits ts w → Accepts (deeds_over limits ts w) (steps_over limits ts w) (acceptances_over limits ts w)
+pub run_accepts : (limits : Capacity) (ts : List Turn) (w : World) → IsNew w → IsCounted limits ts w → Accepts (deeds_over limits ts w) (steps_over limits ts w) (acceptances_over limits ts w)
 run_accepts limits ts w new fair = all_accept limits ts w fair.within new.steady fair.unspent

@@ -18,7 +18,7 @@ use Rattle.mqtt_records.specs.declared.state.session.Session.{Session}
 use Rattle.mqtt_records.specs.declared.state.records.Records.{Records}
 use Rattle.mqtt_records.specs.lists.Order.{row_at}
 use Rattle.mqtt_records.specs.state.Session.{copy_place}
-use Rattle.mqtt_rules.specs.declared.step.Limits.{Limits}
+use Rattle.mqtt_rules.specs.declared.step.Capacity.{Capacity}
 use Rattle.mqtt_rules.specs.step.Packets.{publish_of}
 use Rattle.mqtt_rules.specs.step.State.{Line, Broker, Env, MemberChoice, is_of, line_of, queue_on, session_at}
 use Rattle.mqtt_rules.specs.step.Deeds.{whose, Message, Origin, FromClient, Part, Resume, Close, Open, Enter, Leave, LinePart, Hear, Greet, SetAlias, Went, Deed, Accept, Count, At, Finish, Forget, RefuseWill, Link, On, Send, Gone, after, after_all, always, fresh_line, given_after, line_after, lines_after, lines_at, on_line, rows_of_all, series, without_place}
@@ -301,7 +301,7 @@ module _ (env : Env) where
       moment_numbered (rows_of_all (deeds_of env call b) b.records) c (numbered b.given c.given c.lines k.given k.lines)
 
 -- so they are after an opening
-pub opening_numbered : (limits : Limits) (choice : MemberChoice) (now : ℕ) (r : Records) → IsNumbered (opened limits choice now r)
+pub opening_numbered : (limits : Capacity) (choice : MemberChoice) (now : ℕ) (r : Records) → IsNumbered (opened limits choice now r)
 opening_numbered limits choice now r =
     let b = unopened now r in
     let env = env_of limits choice b in

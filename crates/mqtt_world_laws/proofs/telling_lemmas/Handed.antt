@@ -7,7 +7,7 @@ use Rattle.mqtt_base.specs.declared.session.CopyId.{CopyId}
 use Rattle.mqtt_base.specs.declared.session.Qos.{Qos}
 use Rattle.mqtt_base.specs.declared.session.Qos.TheVariants.{AtMostOnce, AtLeastOnce, ExactlyOnce}
 use Rattle.mqtt_topic.specs.names.Aliases.{AliasTable}
-use Rattle.mqtt_rules.specs.declared.step.Limits.{Limits}
+use Rattle.mqtt_rules.specs.declared.step.Capacity.{Capacity}
 use Rattle.mqtt_rules.specs.step.State.{Telling}
 use Rattle.mqtt_world_model.specs.model.Ends.{Receiver}
 use Rattle.mqtt_world_model.specs.model.Laws.{AllHandedOnce, HandedOnce, IsTaken, WasTaken}
@@ -24,7 +24,7 @@ was_taken r ms AtMostOnce c h = h
 was_taken r ms AtLeastOnce c h = h
 was_taken r ms ExactlyOnce c h = h
 
-module _ (limits : Limits) (ts : List Turn) where
+module _ (limits : Capacity) (ts : List Turn) where
   abbrev Once : Receiver → Type 0
   Once = HandedOnce limits ts
 

@@ -3,7 +3,7 @@ use Rattle.std.proofs.Common.{◌≡◌, ℕ, zero, suc, ◌<◌, Bool, true, fa
 use Rattle.std.specs.Prelude.{is_some}
 use Rattle.std.specs.List.{AllByRecursion}
 use Rattle.mqtt_topic.specs.names.Aliases.{AliasTable, no_aliases}
-use Rattle.mqtt_rules.specs.declared.step.Limits.{Limits}
+use Rattle.mqtt_rules.specs.declared.step.Capacity.{Capacity}
 use Rattle.mqtt_rules.specs.step.State.{Broker, Telling}
 use Rattle.mqtt_rules.specs.step.Step.{Call, can_link}
 use Rattle.mqtt_world_model.specs.model.Lines.{Down, gives_up, left, stands}
@@ -34,8 +34,8 @@ all_split : {X : Type 0} (P : X → Type 0) (xs ys : List X) → AllByRecursion 
 all_split P [] ys h = (tt, h)
 all_split P (x ∷ xs) ys h = let rest = all_split P xs ys h.1 in ((h.0, rest.0), rest.1)
 
-line_given : (b : Broker) (n : ℕ) → next_line b ≡ Some n → b.given < n
-line_given b n e = by (can_link b) e
+line_given : (limits : Capacity) (b : Broker) (n : ℕ) → next_line limits b ≡ Some n → b.given < n
+line_given limits b n e = by (can_link limits b) e
   where
     by : (t : Bool) → cond t (Some (suc b.given)) None ≡ Some n → b.given < n
     by true e = let is : suc b.given ≡ n = cc in omega (arith, is)
@@ -142,11 +142,11 @@ module _ (most : Most) where
 
   module _ (set : Setting) (client : List ℕ) (clean : Bool) (s : AsSent) (ms : List Publisher) (vs : List Receiver) (hp : AllPublishersAlike s.world.publishers ms)
       (hr : AllReceiversAlike most s.tellings s.world.receivers s.known vs) (on : OnGiven s.world.broker s.tellings) where
-    connects_on : (o : Option ℕ) → next_line s.world.broker ≡ o
+    connects_on : (o : Option ℕ) → next_line set.limits s.world.broker ≡ o
         → Goes most (record { world = links set o client clean s.world; tellings = s.tellings; known = known_joined most o client s }) (links set o client clean (record s.world { publishers = ms; receivers = vs }))
     connects_on None is = other_like s ms vs hp hr on
     connects_on (Some n) is =
-        let less = line_given s.world.broker n is in
+        let less = line_given set.limits s.world.broker n is in
         record {
           worlds = joins_alike most s.tellings s.known set s.world client clean n (on.unused n less) ms vs hp hr;
           lines = line_more set s.world s.tellings on;
@@ -199,7 +199,7 @@ module _ (most : Most) where
       })
   happens_alike set (connect_end client clean) s w h order =
       by_world most (λ (y : World). Goes most (happens most set (connect_end client clean) s) (meant.happens set (connect_end client clean) y)) s w h.worlds
-      (λ ms vs hp hr. connects_on set client clean s ms vs hp hr h.lines (next_line s.world.broker) refl)
+      (λ ms vs hp hr. connects_on set client clean s ms vs hp hr h.lines (next_line set.limits s.world.broker) refl)
   happens_alike set (give_up client) s w h order = record {
     worlds = lines_of most s.tellings s.known client (λ l. gives_up l.link l) (λ l. gives_up l.link l) (gave_up most s.tellings) s.world w h.worlds;
     lines = h.lines;
@@ -244,7 +244,7 @@ module _ (most : Most) where
 
   -- ---- runs
 
-  turned_alike : (limits : Limits) (t : Turn) (s : AsSent) (w : World) → Goes most s w → AllByRecursion SendsItsTopic (read_at the_deeds (setting limits t) t.event w)
+  turned_alike : (limits : Capacity) (t : Turn) (s : AsSent) (w : World) → Goes most s w → AllByRecursion SendsItsTopic (read_at the_deeds (setting limits t) t.event w)
       → Goes most (turned most limits t s) (meant_run.turned limits t w)
   turned_alike limits t s w h order =
       by_world most (λ (y : World). AllByRecursion SendsItsTopic (read_at the_deeds (setting limits t) t.event y) → Goes most (turned most limits t s) (meant_run.turned limits t y)) s w h.worlds
@@ -263,7 +263,7 @@ module _ (most : Most) where
       turn set e s y h false order = happens_alike set e s y h order
 
   -- whatever happens, both worlds go alike
-  pub run_alike : (limits : Limits) (ts : List Turn) (s : AsSent) (w : World) → Goes most s w → AllByRecursion SendsItsTopic (read_over the_deeds limits ts w)
+  pub run_alike : (limits : Capacity) (ts : List Turn) (s : AsSent) (w : World) → Goes most s w → AllByRecursion SendsItsTopic (read_over the_deeds limits ts w)
       → Goes most (run most limits ts s) (meant_run.run limits ts w)
   run_alike limits [] s w h order = h
   run_alike limits (t ∷ ts) s w h order =
@@ -271,16 +271,16 @@ module _ (most : Most) where
       run_alike limits ts (turned most limits t s) (meant_run.turned limits t w) (turned_alike limits t s w h parts.0) parts.1
 
   -- from nothing
-  pub likewise : (limits : Limits) (ts : List Turn) → AllSendTopics limits ts → Likewise most (sent.after most limits ts) (meant_run.after limits ts)
+  pub likewise : (limits : Capacity) (ts : List Turn) → AllSendTopics limits ts → Likewise most (sent.after most limits ts) (meant_run.after limits ts)
   likewise limits ts order =
       (run_alike limits ts start_as_sent start (record { worlds = record { same = refl; publishers = tt; receivers = tt }; lines = record { unused = λ n less. refl; numbered = tt } }) order).worlds
 
   -- the broker is the same
-  pub brokers : (limits : Limits) (ts : List Turn) → AllSendTopics limits ts → (sent.after most limits ts).world.broker ≡ (meant_run.after limits ts).broker
+  pub brokers : (limits : Capacity) (ts : List Turn) → AllSendTopics limits ts → (sent.after most limits ts).world.broker ≡ (meant_run.after limits ts).broker
   brokers limits ts topics = sym (ap (λ (y : World). y.broker) (likewise limits ts topics).same)
 
   -- what became of each message is the same
-  pub fates : (limits : Limits) (ts : List Turn) (client : List ℕ) (n : ℕ) → AllSendTopics limits ts → fate_of client n (sent.after most limits ts).world ≡ fate_of client n (meant_run.after limits ts)
+  pub fates : (limits : Capacity) (ts : List Turn) (client : List ℕ) (n : ℕ) → AllSendTopics limits ts → fate_of client n (sent.after most limits ts).world ≡ fate_of client n (meant_run.after limits ts)
   fates limits ts client n topics =
       let s = sent.after most limits ts in
       by_world most (λ (y : World). fate_of client n s.world ≡ fate_of client n y) s (meant_run.after limits ts) (likewise limits ts topics)
@@ -293,7 +293,7 @@ module _ (most : Most) where
   all_understand ts (r ∷ rs) (k ∷ ks) [] h = absurd h
 
   -- what is under way is understood
-  pub understand : (limits : Limits) (ts : List Turn) → AllSendTopics limits ts → AllUnderstand (sent.after most limits ts).world.receivers (sent.after most limits ts).known
+  pub understand : (limits : Capacity) (ts : List Turn) → AllSendTopics limits ts → AllUnderstand (sent.after most limits ts).world.receivers (sent.after most limits ts).known
   understand limits ts order =
       let s = sent.after most limits ts in
       let w = meant_run.after limits ts in

@@ -110,7 +110,7 @@ module _ (set : Setting) (x : World) where
 
   -- nothing goes out
   nothing_out : Out.outputs ≡ []
-  nothing_out = by (can_link (at_moment x.now x.broker))
+  nothing_out = by (can_link set.limits (at_moment x.now x.broker))
     where
       by : (t : Bool) → filter_map output (cond t (link_deed (suc x.broker.given) ∷ []) []) ≡ []
       by true = refl
@@ -118,7 +118,7 @@ module _ (set : Setting) (x : World) where
 
   -- and no number is given twice
   given_up_to : x.broker.given ≤ New.given
-  given_up_to = by (can_link (at_moment x.now x.broker))
+  given_up_to = by (can_link set.limits (at_moment x.now x.broker))
     where
       by : (t : Bool) → x.broker.given ≤ (done (cond t (link_deed (suc x.broker.given) ∷ []) []) (at_moment x.now x.broker)).given
       by true = omega arith

@@ -386,7 +386,7 @@ module _ (call : Option Call) (env : Env) (R : List Deed → Broker → Type 0) 
 
   -- it is said of a call
   pub call_traced : (asked : Call) → call ≡ Some asked → (b : Broker) → Orders b → Trace (deeds_of env asked b) b
-  call_traced NewLine is b h = silent_deeds (cond (can_link b) (Link (suc b.given) ∷ []) []) b (silent_cond call env (can_link b) (Link (suc b.given) ∷ []) [] (tt, tt) tt)
+  call_traced NewLine is b h = silent_deeds (cond (can_link env.limits b) (Link (suc b.given) ∷ []) []) b (silent_cond call env (can_link env.limits b) (Link (suc b.given) ∷ []) [] (tt, tt) tt)
   call_traced (Input n packet) is b h =
       on_a_line (line_at n b) (λ l. series (always (On n Hear ∷ []) ∷ on_packet env l packet l.session ∷ [])) b (λ l there.
       let c = after (On n Hear) b in

@@ -19,7 +19,7 @@ use Rattle.mqtt_records.specs.state.Session.{birth_of}
 use Rattle.mqtt_flow.specs.outbound.Outbound.{way_made}
 use Rattle.mqtt_topic.specs.names.Filters.{is_filter}
 use Rattle.mqtt_topic.specs.names.Names.{is_empty}
-use Rattle.mqtt_rules.specs.declared.step.Limits.{Limits}
+use Rattle.mqtt_rules.specs.declared.step.Capacity.{Capacity}
 use Rattle.mqtt_rules.specs.step.Deeds.{Accept, At, Count, Deed, Enter, Message, Origin, Send, Subscribe, after, after_all, always, offer, series, whose, with_session}
 use Rattle.mqtt_rules.specs.step.Fitting.{has_form}
 use Rattle.mqtt_rules.specs.step.Laws.{IsOrdered}
@@ -290,9 +290,9 @@ module _ (call : Option Call) (env : Env) where
   once_opened b order = opening_traced call env IsOnce saying b order
 
 -- in a call no more goes out at once than there are copies
-pub call_once : (limits : Limits) (choice : MemberChoice) (now : ℕ) (call : Call) (b : Broker) → IsOrdered b.records → SendsEachOnce (call_step limits choice now call b)
+pub call_once : (limits : Capacity) (choice : MemberChoice) (now : ℕ) (call : Call) (b : Broker) → IsOrdered b.records → SendsEachOnce (call_step limits choice now call b)
 call_once limits choice now call b order = record { once = once_called (Some call) (env_of limits choice b) call refl (at_moment now b) order }
 
 -- nor in an opening
-pub open_once : (limits : Limits) (choice : MemberChoice) (now : ℕ) (r : Records) → IsOrdered r → SendsEachOnce (open_step limits choice now r)
+pub open_once : (limits : Capacity) (choice : MemberChoice) (now : ℕ) (r : Records) → IsOrdered r → SendsEachOnce (open_step limits choice now r)
 open_once limits choice now r order = let b = unopened now r in record { once = once_opened None (env_of limits choice b) b order }

@@ -9,7 +9,7 @@ use Rattle.mqtt_records.specs.declared.state.change.Change.{Change}
 use Rattle.mqtt_records.specs.declared.state.session.Session.{Session}
 use Rattle.mqtt_records.specs.messages.Queue.{CopyRow}
 use Rattle.mqtt_records.specs.state.Session.{birth_of}
-use Rattle.mqtt_rules.specs.declared.step.Limits.{Limits}
+use Rattle.mqtt_rules.specs.declared.step.Capacity.{Capacity}
 use Rattle.mqtt_rules.specs.step.Deeds.{At, Deed, Enter, Link, Send, after, after_all, rows_of_all}
 use Rattle.mqtt_rules.specs.step.Laws.{AreWithin, IsAmong}
 use Rattle.mqtt_rules.specs.step.State.{Broker}
@@ -37,7 +37,7 @@ use Rattle.mqtt_world_laws.proofs.unasked_lemmas.Waiting.{EntersWell, HoldsIn, H
 abbrev Any : List Deed → Broker → Broker → Type 0
 Any ds b d = ⊤
 
-anything : (limits : Limits) → Walk limits Any
+anything : (limits : Capacity) → Walk limits Any
 anything limits = record {
   none = λ b. tt;
   next = λ xs ys a b d p q. tt;
@@ -143,7 +143,7 @@ module _ (old : List (ℕ × MessageCopy)) where
 
     -- a new line leaves the sessions
     linked : (b : Broker) (now : ℕ) → (stepped set.limits set.choice now NewLine b).records.sessions ≡ b.records.sessions
-    linked b now = by (can_link b)
+    linked b now = by (can_link set.limits b)
       where
         by : (t : Bool) → (done (cond t (Link (suc b.given) ∷ []) []) (at_moment now b)).records.sessions ≡ b.records.sessions
         by true = refl
@@ -200,7 +200,7 @@ module _ (old : List (ℕ × MessageCopy)) where
     joins : (d : List ℕ) (clean : Bool) (w : World) → IsSteady w.broker → Turns (read_in the_asked set (connect_end d clean) w) w (happens set (connect_end d clean) w)
     joins d clean w s first h =
         let x = called NewLine w s first h in
-        (x.0, subst (HoldsOf (Known (first ++ read_in the_asked set (connect_end d clean) w))) (linked w.broker w.now ∙ sym (by (can_link w.broker))) x.1)
+        (x.0, subst (HoldsOf (Known (first ++ read_in the_asked set (connect_end d clean) w))) (linked w.broker w.now ∙ sym (by (can_link set.limits w.broker))) x.1)
       where
         by : (t : Bool) → (links set (cond t (Some (suc w.broker.given)) None) d clean w).broker.records.sessions ≡ w.broker.records.sessions
         by true = linked w.broker w.now
@@ -229,7 +229,7 @@ module _ (old : List (ℕ × MessageCopy)) where
 
   -- ---- a turn, and a run
 
-  turn_asked : (limits : Limits) (t : Turn) (w : World) → AreWithin limits → IsSteady w.broker → read_at spending (setting limits t) t.event w ≡ false → Turns (read_at the_asked (setting limits t) t.event w) w (turned limits t w)
+  turn_asked : (limits : Capacity) (t : Turn) (w : World) → AreWithin limits → IsSteady w.broker → read_at spending (setting limits t) t.event w ≡ false → Turns (read_at the_asked (setting limits t) t.event w) w (turned limits t w)
   turn_asked limits t w within s unspent = by (is_bad t.event w) unspent
     where
       set : Setting
@@ -239,7 +239,7 @@ module _ (old : List (ℕ × MessageCopy)) where
       by true u = none w.broker.records.sessions w.broker.records.sessions refl
       by false u = happened set within t.event w s u
 
-  every_turn : (limits : Limits) (ts : List Turn) (w : World) → AreWithin limits → IsSteady w.broker → run_spends limits ts w ≡ false → Turns (asked_over limits ts w) w (run limits ts w)
+  every_turn : (limits : Capacity) (ts : List Turn) (w : World) → AreWithin limits → IsSteady w.broker → run_spends limits ts w ≡ false → Turns (asked_over limits ts w) w (run limits ts w)
   every_turn limits [] w within s unspent = none w.broker.records.sessions w.broker.records.sessions refl
   every_turn limits (t ∷ ts) w within s unspent =
       let v = turned limits t w in
@@ -263,14 +263,14 @@ stood (s ∷ ss) all h = (
 )
 
 -- in every run that spends no number nobody is sent what he did not ask for
-pub run_asked : (limits : Limits) (ts : List Turn) (w : World) → IsNew w → IsCounted limits ts w → NobodyIsSentUnasked (queued_at w.broker) limits ts w
+pub run_asked : (limits : Capacity) (ts : List Turn) (w : World) → IsNew w → IsCounted limits ts w → NobodyIsSentUnasked (queued_at w.broker) limits ts w
 run_asked limits ts w new fair =
     (every_turn (queued_at w.broker) limits ts w fair.within new.steady fair.unspent [] (stood w.broker.records.sessions (queued_at w.broker) (λ y among. among))).0
 
 -- nor from nothing stored
-pub nothing_asked : (limits : Limits) (ts : List Turn) → IsCounted limits ts start → NobodyIsSentUnasked [] limits ts start
+pub nothing_asked : (limits : Capacity) (ts : List Turn) → IsCounted limits ts start → NobodyIsSentUnasked [] limits ts start
 nothing_asked limits ts fair = run_asked limits ts start start_new fair
 
 -- nor over a script
-pub script_asked : (limits : Limits) (ds : List Doing) (w : World) → IsNew w → IsCounted limits (all_turns limits ds w) w → NobodyIsSentUnasked (queued_at w.broker) limits (all_turns limits ds w) w
+pub script_asked : (limits : Capacity) (ds : List Doing) (w : World) → IsNew w → IsCounted limits (all_turns limits ds w) w → NobodyIsSentUnasked (queued_at w.broker) limits (all_turns limits ds w) w
 script_asked limits ds w new fair = run_asked limits (all_turns limits ds w) w new fair

@@ -1,7 +1,7 @@
 -- Each call and each opening: all that goes out in it was asked for.
 use Rattle.std.proofs.Common.{ℕ, Option, Some, None, refl}
 use Rattle.mqtt_records.specs.declared.state.records.Records.{Records}
-use Rattle.mqtt_rules.specs.declared.step.Limits.{Limits}
+use Rattle.mqtt_rules.specs.declared.step.Capacity.{Capacity}
 use Rattle.mqtt_rules.specs.step.Fitting.{fitted, pump_turns, size_at}
 use Rattle.mqtt_rules.specs.step.Laws.{IsOrdered}
 use Rattle.mqtt_rules.specs.step.Outbound.{way_of}
@@ -30,12 +30,12 @@ tracing call env = record {
 }
 
 -- of a call
-pub call_asked : (limits : Limits) (choice : MemberChoice) (now : ℕ) (call : Call) (b : Broker) → IsOrdered b.records → SendsNothingUnasked (call_step limits choice now call b)
+pub call_asked : (limits : Capacity) (choice : MemberChoice) (now : ℕ) (call : Call) (b : Broker) → IsOrdered b.records → SendsNothingUnasked (call_step limits choice now call b)
 call_asked limits choice now call b order =
     call_traced (Some call) (env_of limits choice b) (Traced (Some call) (env_of limits choice b)) (tracing (Some call) (env_of limits choice b)) call refl (at_moment now b) order (moments_in (call_step limits choice now call b)) (λ x among. among)
 
 -- of an opening
-pub open_asked : (limits : Limits) (choice : MemberChoice) (now : ℕ) (r : Records) → IsOrdered r → SendsNothingUnasked (open_step limits choice now r)
+pub open_asked : (limits : Capacity) (choice : MemberChoice) (now : ℕ) (r : Records) → IsOrdered r → SendsNothingUnasked (open_step limits choice now r)
 open_asked limits choice now r order =
     let b = unopened now r in
     opening_traced None (env_of limits choice b) (Traced None (env_of limits choice b)) (tracing None (env_of limits choice b)) b order (moments_in (open_step limits choice now r)) (λ x among. among)

@@ -18,7 +18,7 @@ use Rattle.mqtt_packet.specs.codec.Publish.{delivery_at, publish_at}
 use Rattle.mqtt_packet.specs.codec.Frames.{frame_at, body_at, versioned_at, lawful_at, packet_at}
 use Rattle.mqtt_packet.specs.stream.Front.{size_at, first_of}
 use Rattle.mqtt_flow.specs.declared.outbound.entry.Full.TheVariants.{Drop}
-use Rattle.mqtt_rules.specs.declared.step.Limits.{Limits}
+use Rattle.mqtt_rules.specs.declared.step.Capacity.{Capacity}
 use Rattle.mqtt_rules.proofs.step_lemmas.examples.Play.{bytes, usual}
 use Rattle.mqtt_world_model.specs.model.Ends.{Receiver}
 use Rattle.mqtt_world_model.specs.model.Laws.{handed_count}
@@ -42,7 +42,7 @@ pub record Came : Type 0 where
 abbrev came_in : World → End → Came
 came_in w e = record { copy = e.copy; by = e.by; handed = option_map (λ (r : Receiver). handed_count e.copy r) (receiver_named r1 w) }
 
-abbrev came : Limits → List Event → List Came
+abbrev came : Capacity → List Event → List Came
 came limits es = map (came_in (after limits (turns es))) (ended_over limits (turns es))
 
 abbrev ended : ℕ → Ending → ℕ → Came
@@ -67,7 +67,7 @@ the_late_one_is_never_handed_over = refl
 
 -- ---- a queue of one copy drops it for the next
 
-abbrev dropping : Limits
+abbrev dropping : Capacity
 dropping = record usual { full = Drop; queue = 1 }
 
 abbrev crowded : List Event

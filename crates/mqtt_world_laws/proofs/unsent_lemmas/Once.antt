@@ -11,7 +11,7 @@ use Rattle.mqtt_records.specs.declared.state.session.Session.{Session}
 use Rattle.mqtt_rules.specs.step.Deeds.{Deed}
 use Rattle.mqtt_rules.specs.step.Laws.{IsAmong, IsCoherentMessage}
 use Rattle.mqtt_rules.specs.step.State.{Broker}
-use Rattle.mqtt_rules.specs.declared.step.Limits.{Limits}
+use Rattle.mqtt_rules.specs.declared.step.Capacity.{Capacity}
 use Rattle.mqtt_rules.proofs.step_lemmas.numbers.Copies.{each_more, kinds}
 use Rattle.mqtt_world_model.specs.model.Laws.{count_of, standing, standing_in}
 use Rattle.mqtt_world_model.specs.model.Run.{Turn, run}
@@ -32,7 +32,7 @@ module _ (x : CopyId) where
   abbrev Counts : List Deed → Broker → Broker → Type 0
   Counts ds b d = AreKept (kinds b.records) → Enters x ds (kinds b.records) (kinds d.records)
 
-  counts : (limits : Limits) → Walk limits Counts
+  counts : (limits : Capacity) → Walk limits Counts
   counts limits = record {
     none = λ b k. let zero : E x [] ≡ 0 = refl in record { counted = omega (arith, zero); kept = k };
     next = λ xs ys a b d p q k. let first = p k in enters_next x xs ys (kinds a.records) (kinds b.records) (kinds d.records) first (q first.kept);
@@ -56,12 +56,12 @@ module _ (x : CopyId) where
   ]
 
   -- it stands once, or has ended once, or can come yet
-  pub record IsOnce (limits : Limits) (ts : List Turn) (w : World) : Type 0 where
+  pub record IsOnce (limits : Capacity) (ts : List Turn) (w : World) : Type 0 where
     pub once : count_of x (standing (run limits ts w).broker) + (count_of x (ended_from limits ts w) + U x (kinds (run limits ts w).broker.records)) ≤ 1
     pub kept : AreKept (kinds (run limits ts w).broker.records)
 
   -- so it is in every run
-  pub run_once : (limits : Limits) (ts : List Turn) (w : World) → IsNew w → IsFair limits ts w → TellsApart w.broker.records → IsOnce limits ts w
+  pub run_once : (limits : Capacity) (ts : List Turn) (w : World) → IsNew w → IsFair limits ts w → TellsApart w.broker.records → IsOnce limits ts w
   run_once limits ts w new fair apart =
       let r = w.broker.records in
       let begun : AreKept (kinds r) = record {

@@ -14,7 +14,7 @@ use Rattle.mqtt_packet.specs.declared.codec.publish.Publish.{Publish as Publicat
 use Rattle.mqtt_flow.specs.inbound.Identifiers.{is_among}
 use Rattle.mqtt_flow.specs.inbound.Line.{Link, asked, away, live}
 use Rattle.mqtt_rules.specs.step.Step.{Call, NewLine, stepped, told}
-use Rattle.mqtt_rules.specs.declared.step.Limits.{Limits}
+use Rattle.mqtt_rules.specs.declared.step.Capacity.{Capacity}
 use Rattle.mqtt_world_model.specs.model.Ends.{Back, Entry, Receiver, entry_of, greeted, hears, new_receiver, receiver_connack, receiver_reads, reads_publish}
 use Rattle.mqtt_world_model.specs.model.Laws.{copies_in, count_of, handed_count, is_copy, read_count}
 use Rattle.mqtt_world_model.specs.model.Lines.{Down, Line, gives_up, left, stands}
@@ -239,7 +239,7 @@ module _ (c : List ℕ) (x : CopyId) where
   happens_next set (to_end d) w h = reading set d w h
   happens_next set (publisher d) w h = nothing_new w (happens set (publisher d) w) (same_all w (happens set (publisher d) w) refl) h
   happens_next set (receiver d window aliases) w h = nothing_new w (happens set (receiver d window aliases) w) (new_same (new_receiver d window aliases w.broker.records.births) w.receivers refl) h
-  happens_next set (connect_end d clean) w h = nothing_new w (happens set (connect_end d clean) w) (links_same set (next_line w.broker) d clean w) h
+  happens_next set (connect_end d clean) w h = nothing_new w (happens set (connect_end d clean) w) (links_same set (next_line set.limits w.broker) d clean w) h
   happens_next set (give_up d) w h = nothing_new w (happens set (give_up d) w) (line_same d (λ l. gives_up l.link l) w (happens set (give_up d) w) refl) h
   happens_next set (publish d a) w h = nothing_new w (happens set (publish d a) w) (same_all w (happens set (publish d a) w) refl) h
   happens_next set (subscribe d a) w h = nothing_new w (happens set (subscribe d a) w) (one_same d (λ r. asks_wish (stands r.line.number w.broker) a r) w (happens set (subscribe d a) w) (λ r. refl) (λ r. refl) refl) h
@@ -249,7 +249,7 @@ module _ (c : List ℕ) (x : CopyId) where
   happens_next set (stop_before a) w h = nothing_new w (happens set (stop_before a) w) (then_same w (before set a w) (happens set (stop_before a) w) (before_same set a w) (restarts_same set (before set a w))) h
   happens_next set (stop_after a) w h = nothing_new w (happens set (stop_after a) w) (then_same w (first_step set a w) (happens set (stop_after a) w) (first_same set a w) (restarts_same set (first_step set a w))) h
 
-  turn_next : (limits : Limits) (t : Turn) (w : World) → count_at w < count_at (turned limits t w) → ReadsNext w
+  turn_next : (limits : Capacity) (t : Turn) (w : World) → count_at w < count_at (turned limits t w) → ReadsNext w
   turn_next limits t w h = by (is_bad t.event w) h
     where
       by : (bad : Bool) → count_at w < count_at (cond bad w (happens (setting limits t) t.event w)) → ReadsNext w
@@ -259,14 +259,14 @@ module _ (c : List ℕ) (x : CopyId) where
   -- ---- in a run
 
   -- a moment of it at which the copy is read next
-  pub record IsReadIn (limits : Limits) (ts : List Turn) (w : World) : Type 0 where
+  pub record IsReadIn (limits : Capacity) (ts : List Turn) (w : World) : Type 0 where
     pub first : List Turn
     pub later : List Turn
     pub are : first ++ later ≡ ts
     pub moment : ReadsNext (run limits first w)
 
   -- there is one if the receiver has read more of it by the end
-  pub is_read : (limits : Limits) (ts : List Turn) (w : World) → count_at w < count_at (run limits ts w) → IsReadIn limits ts w
+  pub is_read : (limits : Capacity) (ts : List Turn) (w : World) → count_at w < count_at (run limits ts w) → IsReadIn limits ts w
   is_read limits [] w h = absurd (omega (arith, h))
   is_read limits (t ∷ ts) w h = by (less_or_not (count_at w) (count_at (turned limits t w))) (λ more. is_read limits ts (turned limits t w) more)
     where

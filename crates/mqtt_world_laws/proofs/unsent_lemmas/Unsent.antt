@@ -8,7 +8,7 @@ use Rattle.std.proofs.lemmas.List.Elements.{All-from_recursion, filter_map-appen
 use Rattle.mqtt_base.specs.declared.session.CopyId.{CopyId}
 use Rattle.mqtt_rules.specs.step.Deeds.{At, Deed, Leave}
 use Rattle.mqtt_rules.specs.step.Laws.{IsAmong}
-use Rattle.mqtt_rules.specs.declared.step.Limits.{Limits}
+use Rattle.mqtt_rules.specs.declared.step.Capacity.{Capacity}
 use Rattle.mqtt_rules.proofs.step_lemmas.acts.Leads.{found_among}
 use Rattle.mqtt_rules.proofs.step_lemmas.numbers.Copies.{each_append, each_more}
 use Rattle.mqtt_world_model.specs.model.Ends.{Entry, Receiver}
@@ -37,7 +37,7 @@ use Rattle.mqtt_world_laws.proofs.unsent_lemmas.Walks.{AreLate, AreOthers, IsGon
 
 -- ---- the deeds of one run and then another
 
-deeds_parts : (limits : Limits) (xs ys : List Turn) (w : World) → deeds_over limits (xs ++ ys) w ≡ deeds_over limits xs w ++ deeds_over limits ys (run limits xs w)
+deeds_parts : (limits : Capacity) (xs ys : List Turn) (w : World) → deeds_over limits (xs ++ ys) w ≡ deeds_over limits xs w ++ deeds_over limits ys (run limits xs w)
 deeds_parts limits [] ys w = refl
 deeds_parts limits (t ∷ xs) ys w =
     let u = turned limits t w in
@@ -63,11 +63,11 @@ none_ended x (d ∷ ds) none = one d none (none_ended x ds)
 -- ---- where a copy is read next
 
 -- in a run from there, it was sent, and has had no end
-record IsReadWhere (x : CopyId) (limits : Limits) (ts : List Turn) (w : World) : Type 0 where
+record IsReadWhere (x : CopyId) (limits : Capacity) (ts : List Turn) (w : World) : Type 0 where
   gone : IsGone x (run limits ts w).broker
   unended : count_of x (ended_from limits ts w) ≡ 0
 
-read_where : (x : CopyId) (limits : Limits) (ts : List Turn) (w : World) (c : List ℕ) → IsUntouched limits w → TellsApart w.broker.records → IsFair limits ts w → ReadsNext c x (run limits ts w) → IsReadWhere x limits ts w
+read_where : (x : CopyId) (limits : Capacity) (ts : List Turn) (w : World) (c : List ℕ) → IsUntouched limits w → TellsApart w.broker.records → IsFair limits ts w → ReadsNext c x (run limits ts w) → IsReadWhere x limits ts w
 read_where x limits ts w c u apart fair m =
     let v = run limits ts w in
     let s = (fair_run_kept limits ts w u fair c).stands in
@@ -89,7 +89,7 @@ read_where x limits ts w c u apart fair m =
 
 -- ---- a copy that was read
 
-fair_first : (limits : Limits) (xs ys : List Turn) (w : World) → IsFair limits (xs ++ ys) w → IsFair limits xs w
+fair_first : (limits : Capacity) (xs ys : List Turn) (w : World) → IsFair limits (xs ++ ys) w → IsFair limits xs w
 fair_first limits xs ys w fair = record { within = fair.within; unspent = (spent_append limits xs ys w fair.unspent).0; clean = (carried_append limits xs ys w fair.clean).0 }
 
 abbrev counts_of : CopyId → Option Receiver → ℕ
@@ -99,7 +99,7 @@ counts_of x (Some r) = counts x r
 named_counts : (x : CopyId) (c : List ℕ) (w : World) (r : Receiver) → receiver_named c w ≡ Some r → count_at c x w ≡ counts x r
 named_counts x c w r e = ap (counts_of x) e
 
-module _ (limits : Limits) (ts : List Turn) (w : World) (u : IsUntouched limits w) (apart : TellsApart w.broker.records) (fair : IsFair limits ts w) (c : List ℕ) (r : Receiver) (e : receiver_named c (run limits ts w) ≡ Some r) where
+module _ (limits : Capacity) (ts : List Turn) (w : World) (u : IsUntouched limits w) (apart : TellsApart w.broker.records) (fair : IsFair limits ts w) (c : List ℕ) (r : Receiver) (e : receiver_named c (run limits ts w) ≡ Some r) where
   none_yet : (x : CopyId) → count_at c x w ≡ 0
   none_yet x = ap (λ (rs : List Receiver). counts_of x (find (λ (q : Receiver). bytes_eq q.client c) rs)) u.new.receivers
 
@@ -165,7 +165,7 @@ counts_same x q r g most =
     grown_by : (xs ys : List Entry) (f : IsFront xs ys) → count_of x (copies_in ys) ≡ count_of x (copies_in xs) + count_of x (copies_in f.0)
     grown_by xs ys f = ap (λ (es : List Entry). count_of x (copies_in es)) f.1 ∙ (ap (count_of x) (filter_map-append (λ (z : Entry). z.copy) xs f.0) ∙ count_append x (copies_in xs) (copies_in f.0))
 
-ended_more : (x : CopyId) (limits : Limits) (xs ys : List Turn) (w : World) → count_of x (ended_from limits xs w) ≤ count_of x (ended_from limits (xs ++ ys) w)
+ended_more : (x : CopyId) (limits : Capacity) (xs ys : List Turn) (w : World) → count_of x (ended_from limits xs w) ≤ count_of x (ended_from limits (xs ++ ys) w)
 ended_more x limits xs ys w =
     let first = ended_from limits xs w in
     let later = ended_from limits ys (run limits xs w) in
@@ -174,7 +174,7 @@ ended_more x limits xs ys w =
     let all : count_of x (ended_from limits (xs ++ ys) w) ≡ count_of x first + count_of x later = ap (count_of x) parts ∙ count_append x first later in
     omega (arith, all)
 
-module _ (limits : Limits) (xs ys : List Turn) (w : World) (u : IsUntouched limits w) (apart : TellsApart w.broker.records) (fair : IsFair limits (xs ++ ys) w) (c : List ℕ) (q r : Receiver) (e : receiver_named c (run limits xs w) ≡ Some q) (f : receiver_named c (run limits (xs ++ ys) w) ≡ Some r) where
+module _ (limits : Capacity) (xs ys : List Turn) (w : World) (u : IsUntouched limits w) (apart : TellsApart w.broker.records) (fair : IsFair limits (xs ++ ys) w) (c : List ℕ) (q r : Receiver) (e : receiver_named c (run limits xs w) ≡ Some q) (f : receiver_named c (run limits (xs ++ ys) w) ≡ Some r) where
   abbrev v : World
   v = run limits xs w
 
@@ -214,17 +214,17 @@ module _ (limits : Limits) (xs ys : List Turn) (w : World) (u : IsUntouched limi
 -- ---- the laws
 
 -- each copy that left its queue while it waited has been handed to no receiver
-pub run_left_waiting : (limits : Limits) (ts : List Turn) (w : World) → IsUntouched limits w → TellsApart w.broker.records → IsFair limits ts w → (c : List ℕ) (r : Receiver) → receiver_named c (run limits ts w) ≡ Some r
+pub run_left_waiting : (limits : Capacity) (ts : List Turn) (w : World) → IsUntouched limits w → TellsApart w.broker.records → IsFair limits ts w → (c : List ℕ) (r : Receiver) → receiver_named c (run limits ts w) ≡ Some r
     → All (WasLeftWaiting r) (deeds_over limits ts w)
 run_left_waiting limits ts w u apart fair c r e = All-from_recursion (WasLeftWaiting r) (deeds_over limits ts w) (left_waiting limits ts w u apart fair c r e)
 
 -- so has each that expired or made way
-pub run_never_handed : (limits : Limits) (ts : List Turn) (w : World) → IsUntouched limits w → TellsApart w.broker.records → IsFair limits ts w → (c : List ℕ) (r : Receiver) → receiver_named c (run limits ts w) ≡ Some r
+pub run_never_handed : (limits : Capacity) (ts : List Turn) (w : World) → IsUntouched limits w → TellsApart w.broker.records → IsFair limits ts w → (c : List ℕ) (r : Receiver) → receiver_named c (run limits ts w) ≡ Some r
     → All (WasNeverHanded r) (filter_map ended_in (deeds_over limits ts w))
 run_never_handed limits ts w u apart fair c r e = All-from_recursion (WasNeverHanded r) (filter_map ended_in (deeds_over limits ts w)) (never_handed limits ts w u apart fair c r e)
 
 -- to each receiver, from nothing stored
-pub all_never_handed : (limits : Limits) (ts : List Turn) → IsFair limits ts start → All (λ (r : Receiver). All (WasNeverHanded r) (ended_over limits ts)) (after limits ts).receivers
+pub all_never_handed : (limits : Capacity) (ts : List Turn) → IsFair limits ts start → All (λ (r : Receiver). All (WasNeverHanded r) (ended_over limits ts)) (after limits ts).receivers
 all_never_handed limits ts fair =
     let rs = (after limits ts).receivers in
     All-from_recursion (λ (r : Receiver). All (WasNeverHanded r) (ended_over limits ts)) rs
@@ -232,6 +232,6 @@ all_never_handed limits ts fair =
     (λ r found. run_never_handed limits ts start (start_untouched limits fair.within) start_apart fair r.client r found) rs (run_found limits ts start tt))
 
 -- what has ended is over: a receiver has read it at the end as often as it had then
-pub run_over : (limits : Limits) (xs ys : List Turn) (w : World) → IsUntouched limits w → TellsApart w.broker.records → IsFair limits (xs ++ ys) w → (c : List ℕ) (q r : Receiver) → receiver_named c (run limits xs w) ≡ Some q → receiver_named c (run limits (xs ++ ys) w) ≡ Some r
+pub run_over : (limits : Capacity) (xs ys : List Turn) (w : World) → IsUntouched limits w → TellsApart w.broker.records → IsFair limits (xs ++ ys) w → (c : List ℕ) (q r : Receiver) → receiver_named c (run limits xs w) ≡ Some q → receiver_named c (run limits (xs ++ ys) w) ≡ Some r
     → All (IsOver q r) (filter_map ended_in (deeds_over limits xs w))
 run_over limits xs ys w u apart fair c q r e f = All-from_recursion (IsOver q r) (filter_map ended_in (deeds_over limits xs w)) (all_over limits xs ys w u apart fair c q r e f (filter_map ended_in (deeds_over limits xs w)) (λ x. omega arith))

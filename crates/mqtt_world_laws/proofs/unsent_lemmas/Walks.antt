@@ -15,7 +15,7 @@ use Rattle.mqtt_rules.specs.step.Deeds.{At, Deed, Enter, Leave, Mark, after, aft
 use Rattle.mqtt_rules.specs.step.Laws.{AreWithin}
 use Rattle.mqtt_rules.specs.step.State.{Broker, Env}
 use Rattle.mqtt_rules.specs.step.Step.{Call, at_moment, deeds, env_of, opening, unopened}
-use Rattle.mqtt_rules.specs.declared.step.Limits.{Limits}
+use Rattle.mqtt_rules.specs.declared.step.Capacity.{Capacity}
 use Rattle.mqtt_rules.proofs.step_lemmas.numbers.Copies.{each_append, kinds}
 use Rattle.mqtt_rules.proofs.step_lemmas.flight.FlightRows.{all_at}
 use Rattle.mqtt_rules.proofs.step_lemmas.fit.StandLaw.{stands_call, stands_opening}
@@ -72,7 +72,7 @@ late_deeds m (d ∷ ds) b h = one d h (λ more. late_deeds m ds (after d b) more
     one (At who (Leave e ending)) h more = ((λ late. waits_by ending _ h.0.session h.0.cause late), more h.1)
     one d h more = (tt, more h)
 
-late : (limits : Limits) → Walk limits (λ ds b d. AreLate ds)
+late : (limits : Capacity) → Walk limits (λ ds b d. AreLate ds)
 late limits = record {
   none = λ b. tt;
   next = λ xs ys a b d p q. each_append IsLate xs ys p q;
@@ -93,7 +93,7 @@ late limits = record {
 }
 
 -- in every run
-pub run_late : (limits : Limits) (ts : List Turn) (w : World) → IsNew w → IsFair limits ts w → AreLate (deeds_over limits ts w)
+pub run_late : (limits : Capacity) (ts : List Turn) (w : World) → IsNew w → IsFair limits ts w → AreLate (deeds_over limits ts w)
 run_late limits ts w new fair = run_walks (λ ds b d. AreLate ds) limits ts w (late limits) new (counted limits ts w fair)
 
 -- ---- a copy that was sent
@@ -151,7 +151,7 @@ module _ (x : CopyId) where
   Goes ds b d = IsGone b → IsGone d × AreOthers ds
 
   -- none of it waits again, in whatever is called and opened
-  pub goes : (limits : Limits) → Walk limits Goes
+  pub goes : (limits : Capacity) → Walk limits Goes
   goes limits = record {
     none = λ b g. (g, tt);
     next = λ xs ys a b d p q g. let first = p g in let rest = q first.0 in (rest.0, each_append IsOther xs ys first.1 rest.1);
@@ -182,7 +182,7 @@ module _ (x : CopyId) where
   }
 
   -- and each run, from any state in order
-  pub run_others : (limits : Limits) (ts : List Turn) (w : World) → AreWithin limits → IsSteady w.broker → run_spends limits ts w ≡ false → IsGone w.broker → AreOthers (deeds_over limits ts w)
+  pub run_others : (limits : Capacity) (ts : List Turn) (w : World) → AreWithin limits → IsSteady w.broker → run_spends limits ts w ≡ false → IsGone w.broker → AreOthers (deeds_over limits ts w)
   run_others limits [] w within s unspent g = tt
   run_others limits (t ∷ ts) w within s unspent g =
       let v = turned limits t w in

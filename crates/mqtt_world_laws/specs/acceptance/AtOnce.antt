@@ -4,7 +4,7 @@ use Rattle.std.specs.Prelude.{◌≡◌, ◌⊎◌, ℕ, ⊤, true, false, Bool,
 use Rattle.std.specs.List.{AllByRecursion}
 use Rattle.mqtt_packet.specs.declared.codec.packet.Packet.{Packet}
 use Rattle.mqtt_records.specs.declared.messages.message.MessageCopy.{MessageCopy}
-use Rattle.mqtt_rules.specs.declared.step.Limits.{Limits}
+use Rattle.mqtt_rules.specs.declared.step.Capacity.{Capacity}
 use Rattle.mqtt_rules.specs.step.Deeds.{Deed, Accept, Send, after, output}
 use Rattle.mqtt_rules.specs.step.Fitting.{has_form}
 use Rattle.mqtt_rules.specs.step.Packets.{publish_of}
@@ -63,7 +63,7 @@ IsPart (x ∷ xs) (y ∷ ys) = ((x ≡ y) × IsPart xs ys) ⊎ IsPart (x ∷ xs)
 abbrev pub GoesOut : Step → Type 0
 GoesOut x = IsPart (due_in x) (filter_map output x.deeds)
 
-abbrev pub AllGoOut : Limits → List Turn → World → Type 0
+abbrev pub AllGoOut : Capacity → List Turn → World → Type 0
 AllGoOut limits ts w = AllByRecursion GoesOut (steps_over limits ts w)
 
 -- ---- on the receiver's line

@@ -4,7 +4,7 @@ use Rattle.std.specs.Prelude.{◌≡◌, List, [], ◌∷◌, map, filter, flat_
 use Rattle.mqtt_base.specs.declared.session.CopyId.{CopyId}
 use Rattle.mqtt_records.specs.declared.state.session.Session.{Session}
 use Rattle.mqtt_records.specs.declared.state.subscription.Subscription.{Subscription}
-use Rattle.mqtt_rules.specs.declared.step.Limits.{Limits}
+use Rattle.mqtt_rules.specs.declared.step.Capacity.{Capacity}
 use Rattle.mqtt_rules.specs.step.State.{Broker, Env, session_at}
 use Rattle.mqtt_rules.specs.step.Deeds.{Subscribe, Deed, Accept, At, after as after_deed}
 use Rattle.mqtt_rules.specs.step.Routing.{CopyTo, is_queued, accepted_copies}
@@ -61,9 +61,9 @@ brings_at m = brings m.env m.deed m.broker
 abbrev pub brought_in : Step → List CopyId
 brought_in x = flat_map brings_at (moments_of x.env x.deeds x.broker)
 
-abbrev pub brought_from : Limits → List Turn → World → List CopyId
+abbrev pub brought_from : Capacity → List Turn → World → List CopyId
 brought_from limits ts w = flat_map brought_in (steps_over limits ts w)
 
 -- exactly these enter, each once and in this order, and no other
-abbrev pub IsEntered : Limits → List Turn → World → Type 0
+abbrev pub IsEntered : Capacity → List Turn → World → Type 0
 IsEntered limits ts w = entered_from limits ts w ≡ brought_from limits ts w

@@ -2,7 +2,7 @@
 use Rattle.std.specs.Prelude.{◌≡◌, ℕ, false, true, List, []}
 use Rattle.mqtt_records.specs.state.Records.{IsNumber}
 use Rattle.mqtt_records.specs.declared.state.records.Records.{Records}
-use Rattle.mqtt_rules.specs.declared.step.Limits.{Limits}
+use Rattle.mqtt_rules.specs.declared.step.Capacity.{Capacity}
 use Rattle.mqtt_rules.specs.step.State.{Broker, MemberChoice}
 use Rattle.mqtt_rules.specs.step.Laws.{AreWithin, IsCoherent}
 use Rattle.mqtt_rules.specs.step.Lines.{HasUniqueLines}
@@ -27,7 +27,7 @@ pub record IsNew (w : World) : Type 0 where
   pub strangers : w.strangers ≡ []
 
 -- the world in which the broker has been opened on these records
-abbrev pub opened_world : Limits → MemberChoice → ℕ → Records → World
+abbrev pub opened_world : Capacity → MemberChoice → ℕ → Records → World
 opened_world limits choice now r = record {
   broker = opened limits choice now r;
   now = now;
@@ -38,19 +38,19 @@ opened_world limits choice now r = record {
 
 -- what may be opened so: tables in order, and opening them spends no number; more sessions may stand than the limit, if they
 -- were stored under a larger one
-pub record MayOpen (limits : Limits) (choice : MemberChoice) (now : ℕ) (r : Records) : Type 0 where
+pub record MayOpen (limits : Capacity) (choice : MemberChoice) (now : ℕ) (r : Records) : Type 0 where
   pub coherent : IsCoherent r
   pub unspent : is_opening_spent limits choice now r ≡ false
 
 -- what is asked of a run where nothing is said of ends, whatever they do: the limits are within those of the tables, and no
 -- number is spent
-pub record IsCounted (limits : Limits) (ts : List Turn) (w : World) : Type 0 where
+pub record IsCounted (limits : Capacity) (ts : List Turn) (w : World) : Type 0 where
   pub within : AreWithin limits
   pub unspent : run_spends limits ts w ≡ false
 
 -- what is asked of a run: the limits are within those of the tables, no number is spent, no session of an end's name
 -- stands when it is made, and each Clean Start is carried through (3.1.2.4, ours); whatever else its events are
-pub record IsFair (limits : Limits) (ts : List Turn) (w : World) : Type 0 where
+pub record IsFair (limits : Capacity) (ts : List Turn) (w : World) : Type 0 where
   pub within : AreWithin limits
   pub unspent : run_spends limits ts w ≡ false
   pub clean : are_beginnings_clean limits ts w ≡ true

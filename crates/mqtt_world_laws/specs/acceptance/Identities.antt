@@ -7,7 +7,7 @@ use Rattle.mqtt_base.specs.declared.session.CopyId.{CopyId}
 use Rattle.mqtt_records.specs.declared.messages.message.RetainedMessage.{RetainedMessage}
 use Rattle.mqtt_records.specs.declared.state.records.Records.{Records}
 use Rattle.mqtt_records.specs.lists.Distinct.{AllDiffer}
-use Rattle.mqtt_rules.specs.declared.step.Limits.{Limits}
+use Rattle.mqtt_rules.specs.declared.step.Capacity.{Capacity}
 use Rattle.mqtt_world_model.specs.model.Laws.{count_of, standing, standing_in}
 use Rattle.mqtt_world_model.specs.model.Run.{Turn, run}
 use Rattle.mqtt_world_model.specs.model.World.{World}
@@ -33,15 +33,15 @@ pub record TellsApart (r : Records) : Type 0 where
   pub retained : AllDiffer (map (λ (k : RetainedMessage). k.publication) r.retained)
 
 -- a copy enters at most once
-abbrev pub EntersOnce : CopyId → Limits → List Turn → World → Type 0
+abbrev pub EntersOnce : CopyId → Capacity → List Turn → World → Type 0
 EntersOnce c limits ts w = count_of c (entered_from limits ts w) ≤ 1
 
 -- a copy waits in one queue, or it has one end, or neither: never both, and never two
-abbrev pub EndsOnce : CopyId → Limits → List Turn → World → Type 0
+abbrev pub EndsOnce : CopyId → Capacity → List Turn → World → Type 0
 EndsOnce c limits ts w = count_of c (standing (run limits ts w).broker) + count_of c (ended_from limits ts w) ≤ 1
 
 -- one that entered does either: it waits in its session's queue, or it has exactly one end
-abbrev pub WaitsOrHasEnded : CopyId → Limits → List Turn → World → Type 0
+abbrev pub WaitsOrHasEnded : CopyId → Capacity → List Turn → World → Type 0
 WaitsOrHasEnded c limits ts w =
     count_of c (entered_from limits ts w) ≡ 1
     → count_of c (standing (run limits ts w).broker) + count_of c (ended_from limits ts w) ≡ 1

@@ -1,6 +1,6 @@
 -- The steps of a run that were committed: the broker's calls and openings, each with its deeds (MQTT 5.0, 4.1).
 use Rattle.std.specs.Prelude.{List, [], ◌∷◌, ◌++◌}
-use Rattle.mqtt_rules.specs.declared.step.Limits.{Limits}
+use Rattle.mqtt_rules.specs.declared.step.Capacity.{Capacity}
 use Rattle.mqtt_rules.specs.step.State.{Broker, Env}
 use Rattle.mqtt_rules.specs.step.Deeds.{Deed}
 use Rattle.mqtt_rules.specs.step.Step.{Call, NewLine, env_of, at_moment, deeds, opening, unopened}
@@ -35,5 +35,5 @@ the_steps = record {
   opened = λ set w. opening_step set w ∷ [];
 }
 
-abbrev pub steps_over : Limits → List Turn → World → List Step
+abbrev pub steps_over : Capacity → List Turn → World → List Step
 steps_over limits ts w = read_over the_steps limits ts w

@@ -18,7 +18,7 @@ use Rattle.mqtt_records.specs.declared.messages.message.MessageCopy.{MessageCopy
 use Rattle.mqtt_records.specs.state.Session.{copy_place}
 use Rattle.mqtt_records.specs.declared.state.session.Session.{Session}
 use Rattle.mqtt_records.specs.lists.Order.{row_at}
-use Rattle.mqtt_rules.specs.declared.step.Limits.{Limits}
+use Rattle.mqtt_rules.specs.declared.step.Capacity.{Capacity}
 use Rattle.mqtt_rules.specs.step.Closing.{has_due_end}
 use Rattle.mqtt_rules.specs.step.Deeds.{whose, Enter, At, Finish}
 use Rattle.mqtt_rules.specs.step.Fitting.{has_form}
@@ -151,5 +151,5 @@ pub record HasCause (x : EndAt) : Type 0 where
   pub cause : IsCause x.ending x session
 
 -- each end of a run has its cause
-abbrev pub EachHasItsCause : Limits → List Turn → World → Type 0
+abbrev pub EachHasItsCause : Capacity → List Turn → World → Type 0
 EachHasItsCause limits ts w = AllByRecursion HasCause (ends_over limits ts w)

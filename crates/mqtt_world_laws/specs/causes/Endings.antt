@@ -3,7 +3,7 @@ use Rattle.std.specs.Prelude.{◌≡◌, List, [], ◌∷◌, ◌++◌, map, fla
 use Rattle.std.specs.List.{cons_option}
 use Rattle.mqtt_base.specs.declared.session.Ending.{Ending}
 use Rattle.mqtt_records.specs.messages.Queue.{CopyRow}
-use Rattle.mqtt_rules.specs.declared.step.Limits.{Limits}
+use Rattle.mqtt_rules.specs.declared.step.Capacity.{Capacity}
 use Rattle.mqtt_rules.specs.step.State.{Broker}
 use Rattle.mqtt_rules.specs.step.Deeds.{Whose, Deed, At, Leave, after as after_deed}
 use Rattle.mqtt_rules.specs.step.Step.{Call, NewLine}
@@ -28,7 +28,7 @@ the_asked = record {
   opened = λ set w. asked None (opening_step set w);
 }
 
-abbrev pub asked_over : Limits → List Turn → World → List Asked
+abbrev pub asked_over : Capacity → List Turn → World → List Asked
 asked_over limits ts w = read_over the_asked limits ts w
 
 -- an end: whose the copy was, its row in the queue, and how it ended; the broker right before it left, and what the step
@@ -54,7 +54,7 @@ ends_of x (d ∷ ds) b = cons_option (end_at x b ds d) (ends_of x ds (after_deed
 abbrev pub ends_in : Asked → List EndAt
 ends_in x = ends_of x x.step.deeds x.step.broker
 
-abbrev pub ends_over : Limits → List Turn → World → List EndAt
+abbrev pub ends_over : Capacity → List Turn → World → List EndAt
 ends_over limits ts w = flat_map ends_in (asked_over limits ts w)
 
 -- the end as it is counted
@@ -62,5 +62,5 @@ abbrev pub end_of : EndAt → End
 end_of x = record { client = x.who.client; copy = x.row.copy.id; qos = x.row.copy.qos; by = x.ending }
 
 -- these are all the ends of a run, in order
-abbrev pub AreAllEnds : Limits → List Turn → World → Type 0
+abbrev pub AreAllEnds : Capacity → List Turn → World → Type 0
 AreAllEnds limits ts w = map end_of (ends_over limits ts w) ≡ filter_map ended_in (deeds_over limits ts w)

@@ -4,7 +4,7 @@ use Rattle.std.specs.List.{AllByRecursion}
 use Rattle.mqtt_rules.specs.step.Deeds.{Deed}
 use Rattle.mqtt_rules.specs.step.State.{Broker, Line, MemberChoice}
 use Rattle.mqtt_rules.specs.step.Step.{Call, is_opening_spent, is_step_spent, opened, stepped}
-use Rattle.mqtt_rules.specs.declared.step.Limits.{Limits}
+use Rattle.mqtt_rules.specs.declared.step.Capacity.{Capacity}
 use Rattle.mqtt_world_laws.specs.acceptance.Fair.{IsSteady}
 
 -- if nobody is connected on a line, no copy went out on it
@@ -15,7 +15,7 @@ abbrev pub HaveSentNothing : Broker → Type 0
 HaveSentNothing b = AllByRecursion IsUnused b.lines
 
 -- each call and each opening keeps this, as long as no number is spent
-pub record IsKept (limits : Limits) (P : Broker → Type 0) : Type 0 where
+pub record IsKept (limits : Capacity) (P : Broker → Type 0) : Type 0 where
   pub called : (choice : MemberChoice) (now : ℕ) (call : Call) (b : Broker) → IsSteady b
       → is_step_spent limits choice now call b ≡ false → P b → P (stepped limits choice now call b)
   pub reopened : (choice : MemberChoice) (now : ℕ) (b : Broker) → IsSteady b

@@ -9,7 +9,7 @@ use Rattle.mqtt_world_model.specs.model.World.{World, receiver_named}
 use Rattle.mqtt_rules.specs.step.Laws.{FewOpen}
 use Rattle.mqtt_rules.specs.step.Numbers.{HasAcceptedNumbers}
 use Rattle.mqtt_rules.specs.step.State.{MemberChoice, session_named}
-use Rattle.mqtt_rules.specs.declared.step.Limits.{Limits}
+use Rattle.mqtt_rules.specs.declared.step.Capacity.{Capacity}
 use Rattle.mqtt_world_laws.specs.acceptance.AtOnce.{AllGoOut}
 use Rattle.mqtt_world_laws.specs.acceptance.Copies.{AreCountedOn, AreRouted, IsBalanced, entered_from}
 use Rattle.mqtt_world_laws.specs.acceptance.Entries.{IsEntered}
@@ -23,7 +23,7 @@ use Rattle.mqtt_world_laws.specs.delivery.HandedOver.{AreHandedInOrder, CarryQue
 -- each message of a publisher is accepted once, with what it carries; each publication is routed, and its copies enter, each
 -- once, and wait or have one end; those of QoS 0 go out at once; and each receiver was handed its copies once, in the order in
 -- which they entered, with what their publications carry, and each that ended as taken
-pub record DeliversOnce (limits : Limits) (ts : List Turn) (w : World) : Type 0 where
+pub record DeliversOnce (limits : Capacity) (ts : List Turn) (w : World) : Type 0 where
   pub accepted : (client : List ℕ) (n : ℕ) → IsAcceptedOnce client n limits ts w
   pub carried : (client : List ℕ) → HasCarried client limits ts w
   pub few_open : FewOpen (run limits ts w).broker.records
@@ -62,17 +62,17 @@ pub record DeliversOnce (limits : Limits) (ts : List Turn) (w : World) : Type 0 
 
 -- it takes no more rounds than are enough for the copies that stand after the first one; and after so many the queue is empty,
 -- or the broker has closed the receiver's line, or it has none
-pub record DrainEnds (limits : Limits) (choice : MemberChoice) (client : List ℕ) (most : ℕ) (w : World) : Type 0 where
+pub record DrainEnds (limits : Capacity) (choice : MemberChoice) (client : List ℕ) (most : ℕ) (w : World) : Type 0 where
   pub is_within : rounds_taken limits choice client most w
       ≤ enough_rounds (copies_left client (after_round limits choice client w))
   pub over : enough_rounds (copies_left client (after_round limits choice client w)) ≤ most
       → is_over client (drained limits choice client most w) ≡ true
 
-abbrev pub EndsWhere : Limits → Doing → World → Type 0
+abbrev pub EndsWhere : Capacity → Doing → World → Type 0
 EndsWhere limits (happens t) w = ⊤
 EndsWhere limits (drains choice client most) w = DrainEnds limits choice client most w
 
 -- each of a script, from where the script has come to
-abbrev pub AllDrainsEnd : Limits → List Doing → World → Type 0
+abbrev pub AllDrainsEnd : Capacity → List Doing → World → Type 0
 AllDrainsEnd limits [] w = ⊤
 AllDrainsEnd limits (d ∷ ds) w = EndsWhere limits d w × AllDrainsEnd limits ds (run limits (turns_of limits d w) w)

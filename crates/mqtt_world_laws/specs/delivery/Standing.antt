@@ -15,7 +15,7 @@ use Rattle.mqtt_world_model.specs.model.World.{Asking, Stranger, World, break, o
 use Rattle.mqtt_world_model.specs.model.World.{stranger, tick, to_broker}
 use Rattle.mqtt_rules.specs.step.Laws.{AreWithin}
 use Rattle.mqtt_rules.specs.step.State.{Broker}
-use Rattle.mqtt_rules.specs.declared.step.Limits.{Limits}
+use Rattle.mqtt_rules.specs.declared.step.Capacity.{Capacity}
 use Rattle.mqtt_world_laws.specs.acceptance.Fair.{IsSteady}
 use Rattle.mqtt_world_laws.specs.acceptance.LineNumbers.{HasApart, IsApartFrom}
 
@@ -86,7 +86,7 @@ IsOtherStranger ns given s = IsAnothers ns given s.number
 
 -- the broker is in order, and these lines are nobody's but this receiver's, whose name no publisher has, and whose session has a
 -- place
-pub record IsAround (client : List ℕ) (limits : Limits) (ns : List ℕ) (w : World) : Type 0 where
+pub record IsAround (client : List ℕ) (limits : Capacity) (ns : List ℕ) (w : World) : Type 0 where
   pub within : AreWithin limits
   pub steady : IsSteady w.broker
   pub tidy : IsTidy limits w.broker
@@ -105,7 +105,7 @@ IsSeen largest ids ns b None = (ids ≡ []) × (ns ≡ [])
 IsSeen largest ids ns b (Some r) = IsPlaced largest ids ns r b
 
 -- with copies of these identities, and these lines
-pub record StandsWith (client : List ℕ) (largest : ℕ) (limits : Limits) (ids : List CopyId) (ns : List ℕ) (w : World)
+pub record StandsWith (client : List ℕ) (largest : ℕ) (limits : Capacity) (ids : List CopyId) (ns : List ℕ) (w : World)
     : Type 0 where
   pub around : IsAround client limits ns w
   pub seen : IsSeen largest ids ns w.broker (receiver_named client w)
@@ -115,7 +115,7 @@ abbrev pub BeginWith : List CopyId → List CopyId → Type 0
 BeginWith first ids = (more : List CopyId) × (ids ≡ first ++ more)
 
 -- with copies that begin with these, and whatever lines
-pub record Stands (first : List CopyId) (client : List ℕ) (largest : ℕ) (limits : Limits) (w : World) : Type 0 where
+pub record Stands (first : List CopyId) (client : List ℕ) (largest : ℕ) (limits : Capacity) (w : World) : Type 0 where
   pub ids : List CopyId
   pub grown : BeginWith first ids
   pub ns : List ℕ

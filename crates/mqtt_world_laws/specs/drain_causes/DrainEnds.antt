@@ -8,7 +8,7 @@ use Rattle.mqtt_packet.specs.declared.connect.connect.Connect.{Connect}
 use Rattle.mqtt_packet.specs.declared.subscribe.subscribe.Subscribe.{Subscribe}
 use Rattle.mqtt_rules.specs.step.State.{MemberChoice}
 use Rattle.mqtt_rules.specs.step.Step.{Call, Input, at_moment}
-use Rattle.mqtt_rules.specs.declared.step.Limits.{Limits}
+use Rattle.mqtt_rules.specs.declared.step.Capacity.{Capacity}
 use Rattle.mqtt_world_model.specs.model.Run.{Turn, run}
 use Rattle.mqtt_world_model.specs.model.World.{World}
 use Rattle.mqtt_world_laws.specs.receiver.Drains.{Doing, drain_turns, drains, happens, turns_of}
@@ -50,18 +50,18 @@ pub record IsOfDrain (client : List ℕ) (moment : ℕ) (x : EndAt) : Type 0 whe
   pub at : x.broker.now ≡ moment
   pub cause : HasCause x
 
-abbrev pub AreOfDrain : List ℕ → Limits → List Turn → World → Type 0
+abbrev pub AreOfDrain : List ℕ → Capacity → List Turn → World → Type 0
 AreOfDrain client limits ts w = AllByRecursion (IsOfDrain client (moment_of w)) (ends_over limits ts w)
 
 -- each end of a drain that takes so many rounds at most
-abbrev pub EndOfDrain : Limits → MemberChoice → List ℕ → ℕ → World → Type 0
+abbrev pub EndOfDrain : Capacity → MemberChoice → List ℕ → ℕ → World → Type 0
 EndOfDrain limits choice client most w = AreOfDrain client limits (drain_turns limits choice client most w) w
 
 -- and of each drain of a script, from where the script has come to
-abbrev pub EndWhere : Limits → Doing → World → Type 0
+abbrev pub EndWhere : Capacity → Doing → World → Type 0
 EndWhere limits (happens t) w = ⊤
 EndWhere limits (drains choice client most) w = AreOfDrain client limits (turns_of limits (drains choice client most) w) w
 
-abbrev pub AllDrainsEndSo : Limits → List Doing → World → Type 0
+abbrev pub AllDrainsEndSo : Capacity → List Doing → World → Type 0
 AllDrainsEndSo limits [] w = ⊤
 AllDrainsEndSo limits (d ∷ ds) w = EndWhere limits d w × AllDrainsEndSo limits ds (run limits (turns_of limits d w) w)

@@ -3,7 +3,7 @@
 use Rattle.std.specs.Prelude.{◌≢◌, ⊤, List, [], ◌∷◌}
 use Rattle.std.specs.List.{AllByRecursion}
 use Rattle.mqtt_base.specs.declared.session.Ending.TheVariants.{TooLarge}
-use Rattle.mqtt_rules.specs.declared.step.Limits.{Limits}
+use Rattle.mqtt_rules.specs.declared.step.Capacity.{Capacity}
 use Rattle.mqtt_world_model.specs.model.Run.{Turn, run}
 use Rattle.mqtt_world_model.specs.model.World.{World}
 use Rattle.mqtt_world_laws.specs.receiver.Drains.{Doing, drains, happens, turns_of}
@@ -13,14 +13,14 @@ use Rattle.mqtt_world_laws.specs.causes.Endings.{EndAt, ends_over}
 abbrev pub IsNotTooLarge : EndAt → Type 0
 IsNotTooLarge x = x.ending ≢ TooLarge
 
-abbrev pub NoneTooLarge : Limits → List Turn → World → Type 0
+abbrev pub NoneTooLarge : Capacity → List Turn → World → Type 0
 NoneTooLarge limits ts w = AllByRecursion IsNotTooLarge (ends_over limits ts w)
 
 -- in any drain of a script
-abbrev pub FitWhere : Limits → Doing → World → Type 0
+abbrev pub FitWhere : Capacity → Doing → World → Type 0
 FitWhere limits (happens t) w = ⊤
 FitWhere limits (drains choice client most) w = NoneTooLarge limits (turns_of limits (drains choice client most) w) w
 
-abbrev pub AllDrainsFit : Limits → List Doing → World → Type 0
+abbrev pub AllDrainsFit : Capacity → List Doing → World → Type 0
 AllDrainsFit limits [] w = ⊤
 AllDrainsFit limits (d ∷ ds) w = FitWhere limits d w × AllDrainsFit limits ds (run limits (turns_of limits d w) w)

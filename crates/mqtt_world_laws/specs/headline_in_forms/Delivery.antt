@@ -9,7 +9,7 @@ use Rattle.mqtt_rules.specs.step.Laws.{FewOpen}
 use Rattle.mqtt_rules.specs.step.Numbers.{CountsOn, publication_given}
 use Rattle.mqtt_rules.specs.step.Routing.{accepted_copies, answers, publication_of, routing_of, subscribers}
 use Rattle.mqtt_rules.specs.step.State.{MemberChoice, session_named}
-use Rattle.mqtt_rules.specs.declared.step.Limits.{Limits}
+use Rattle.mqtt_rules.specs.declared.step.Capacity.{Capacity}
 use Rattle.mqtt_world_model.specs.model.Ends.{Entry, Receiver}
 use Rattle.mqtt_world_model.specs.model.Laws.{copies_in, count_of, fate_of, handed_count, is_own, released_in, stand_among, standing}
 use Rattle.mqtt_world_model.specs.model.Run.{Acceptance, Turn, ended_in}
@@ -47,7 +47,7 @@ pub record IsAcceptedOnce (fate : Option Fate) (times : ℕ) : Type 0 where
   pub acknowledged : fate ≡ Some (ended_1 completed) → 1 ≤ times
 
 -- each message of a publisher, with what it carries; and no session has over 20 identifiers open
-pub record AcceptsOnce (most : Most) (limits : Limits) (ts : List Turn) (s : AsSent) : Type 0 where
+pub record AcceptsOnce (most : Most) (limits : Capacity) (ts : List Turn) (s : AsSent) : Type 0 where
   pub each : (client : List ℕ) (n : ℕ)
       → IsAcceptedOnce (fate_of client n (run most limits ts s).world) (times_accepted client n most limits ts s)
   pub carried : (client : List ℕ)
@@ -119,7 +119,7 @@ pub record HandsOverAll (c : Course) (r : Receiver) : Type 0 where
   pub left_waiting : All (WasLeftWaiting r) c.deeds
 
 -- and nothing of a copy is read once that has ended
-pub record HandsOverOnce (most : Most) (limits : Limits) (ts : List Turn) (s : AsSent) (client : List ℕ) (r : Receiver) : Type 0 where
+pub record HandsOverOnce (most : Most) (limits : Capacity) (ts : List Turn) (s : AsSent) (client : List ℕ) (r : Receiver) : Type 0 where
   pub all : HandsOverAll (course most limits ts s) r
   pub over : (xs ys : List Turn) → xs ++ ys ≡ ts → (q : Receiver) → receiver_named client (run most limits xs s).world ≡ Some q
       → All (IsOver q r) (filter_map ended_in (course most limits xs s).deeds)
@@ -129,7 +129,7 @@ pub record HandsOverOnce (most : Most) (limits : Limits) (ts : List Turn) (s : A
 -- ---- a run
 
 -- and wherever it comes to, each PUBLISH under way to a receiver means a topic to it, once it has read those before it
-pub record DeliversExactlyOnce (most : Most) (limits : Limits) (ts : List Turn) (s : AsSent) : Type 0 where
+pub record DeliversExactlyOnce (most : Most) (limits : Capacity) (ts : List Turn) (s : AsSent) : Type 0 where
   pub messages : AcceptsOnce most limits ts s
   pub entering : EntersAllOnce (course most limits ts s)
   pub ending : EndsAllOnce (course most limits ts s)
@@ -141,17 +141,17 @@ pub record DeliversExactlyOnce (most : Most) (limits : Limits) (ts : List Turn) 
 -- ---- a drain
 
 -- the copies that stand in its receiver's queue at its start, and those that enter in it, or in its first round
-abbrev pub copies_of : Most → Limits → List Turn → List ℕ → AsSent → ℕ
+abbrev pub copies_of : Most → Capacity → List Turn → List ℕ → AsSent → ℕ
 copies_of most limits turns client s = copies_left client s.world + length (entered (course most limits turns s))
 
 -- two rounds may be taken for each of these, and one more
-abbrev pub HasEnough : Most → Limits → MemberChoice → List ℕ → ℕ → AsSent → Type 0
+abbrev pub HasEnough : Most → Capacity → MemberChoice → List ℕ → ℕ → AsSent → Type 0
 HasEnough most limits choice client rounds s =
     enough_rounds (copies_of most limits (round_turns most limits choice client s) client s) ≤ rounds
 
 -- it takes no more rounds than that; after them the queue is empty, and the receiver's line stands still, so that it may be
 -- drained again; and with more rounds nothing more happens
-pub record EmptiesQueue (most : Most) (limits : Limits) (choice : MemberChoice) (client : List ℕ) (rounds : ℕ) (s : AsSent) : Type 0 where
+pub record EmptiesQueue (most : Most) (limits : Capacity) (choice : MemberChoice) (client : List ℕ) (rounds : ℕ) (s : AsSent) : Type 0 where
   pub is_within : rounds_taken most limits choice client rounds s
       ≤ enough_rounds (copies_of most limits (round_turns most limits choice client s) client s)
   pub empty : HasEnough most limits choice client rounds s
@@ -164,7 +164,7 @@ pub record EmptiesQueue (most : Most) (limits : Limits) (choice : MemberChoice) 
 
 -- It takes at most two rounds for each of these, and one. If so many are allowed the queue is empty after it, its receiver's line
 -- stands, and with more rounds nothing more happens. And the copies that end in it are its receiver's, each for its cause
-pub record DrainsAll (most : Most) (limits : Limits) (choice : MemberChoice) (client : List ℕ) (rounds : ℕ) (s : AsSent) : Type 0 where
+pub record DrainsAll (most : Most) (limits : Capacity) (choice : MemberChoice) (client : List ℕ) (rounds : ℕ) (s : AsSent) : Type 0 where
   pub is_within : rounds_taken most limits choice client rounds s
       ≤ enough_rounds (copies_of most limits (drain_turns most limits choice client rounds s) client s)
   pub empties : EmptiesQueue most limits choice client rounds s
@@ -172,23 +172,23 @@ pub record DrainsAll (most : Most) (limits : Limits) (choice : MemberChoice) (cl
       (ends (course most limits (drain_turns most limits choice client rounds s) s))
 
 -- each drain of a script from where the script has come to; a bad one does nothing
-abbrev pub DrainsWhere : Most → Limits → Doing → AsSent → Type 0
+abbrev pub DrainsWhere : Most → Capacity → Doing → AsSent → Type 0
 DrainsWhere most limits (happens t) s = ⊤
 DrainsWhere most limits (drains choice client rounds) s =
     is_bad_drain client s.world ≡ false → DrainsAll most limits choice client rounds s
 
-abbrev pub EachDrains : Most → Limits → List Doing → AsSent → Type 0
+abbrev pub EachDrains : Most → Capacity → List Doing → AsSent → Type 0
 EachDrains most limits [] s = ⊤
 EachDrains most limits (d ∷ ds) s =
     DrainsWhere most limits d s × EachDrains most limits ds (run most limits (turns_of most limits d s) s)
 
 -- no copy ends in a drain as too large
-abbrev pub FitWhere : Most → Limits → Doing → AsSent → Type 0
+abbrev pub FitWhere : Most → Capacity → Doing → AsSent → Type 0
 FitWhere most limits (happens t) s = ⊤
 FitWhere most limits (drains choice client rounds) s =
     AllByRecursion IsNotTooLarge (ends (course most limits (turns_of most limits (drains choice client rounds) s) s))
 
-abbrev pub AllDrainsFit : Most → Limits → List Doing → AsSent → Type 0
+abbrev pub AllDrainsFit : Most → Capacity → List Doing → AsSent → Type 0
 AllDrainsFit most limits [] s = ⊤
 AllDrainsFit most limits (d ∷ ds) s =
     FitWhere most limits d s × AllDrainsFit most limits ds (run most limits (turns_of most limits d s) s)
@@ -197,7 +197,7 @@ AllDrainsFit most limits (d ∷ ds) s =
 
 -- It is the run of its events and of those that its drains are made of; all holds of that run, and of each drain. No copy ends in
 -- a drain as too large
-pub record DoingsDeliver (most : Most) (limits : Limits) (ds : List Doing) (s : AsSent) : Type 0 where
+pub record DoingsDeliver (most : Most) (limits : Capacity) (ds : List Doing) (s : AsSent) : Type 0 where
   pub is_run : after_doings most limits ds s ≡ run most limits (all_turns most limits ds s) s
   pub delivers : DeliversExactlyOnce most limits (all_turns most limits ds s) s
   pub drained : EachDrains most limits ds s

@@ -1,7 +1,7 @@
 -- What is read off a run in which PUBLISH goes out in forms (MQTT 5.0, 3.3.2.3.4).
 use Rattle.std.specs.Prelude.{ℕ, List, [], ◌∷◌, ◌++◌, count_by, filter_map, flat_map, map, nat_eq}
 use Rattle.mqtt_base.specs.declared.session.CopyId.{CopyId}
-use Rattle.mqtt_rules.specs.declared.step.Limits.{Limits}
+use Rattle.mqtt_rules.specs.declared.step.Capacity.{Capacity}
 use Rattle.mqtt_rules.specs.step.State.{Broker}
 use Rattle.mqtt_rules.specs.step.Deeds.{Deed}
 use Rattle.mqtt_world_model.specs.model.World.{World}
@@ -16,7 +16,7 @@ abbrev pub begun : World → AsSent
 begun w = record { world = w; tellings = []; known = [] }
 
 -- off each event, on the world in which it comes
-abbrev pub read_over : {X : Type 0} → Reading X → Most → Limits → List Turn → AsSent → X
+abbrev pub read_over : {X : Type 0} → Reading X → Most → Capacity → List Turn → AsSent → X
 read_over r most limits [] s = r.nothing
 read_over r most limits (t ∷ ts) s =
     r.join (read_at r (setting limits t) t.event s.world) (read_over r most limits ts (turned most limits t s))
@@ -32,7 +32,7 @@ pub record Course : Type 0 where
   pub steps : List Step
   pub asked : List Asked
 
-abbrev pub course : Most → Limits → List Turn → AsSent → Course
+abbrev pub course : Most → Capacity → List Turn → AsSent → Course
 course most limits ts s = record {
   begin = s.world.broker;
   end = (run most limits ts s).world.broker;
@@ -56,17 +56,17 @@ ends c = flat_map ends_in c.asked
 -- ---- from the messages of a publisher
 
 -- those that are accepted, and what of them
-abbrev pub accepted_over : List ℕ → Most → Limits → List Turn → AsSent → List ℕ
+abbrev pub accepted_over : List ℕ → Most → Capacity → List Turn → AsSent → List ℕ
 accepted_over client most limits [] s = []
 accepted_over client most limits (t ∷ ts) s =
     accepted_at client (setting limits t) t.event s.world ++ accepted_over client most limits ts (turned most limits t s)
 
-abbrev pub from_over : List ℕ → Most → Limits → List Turn → AsSent → List From
+abbrev pub from_over : List ℕ → Most → Capacity → List Turn → AsSent → List From
 from_over client most limits [] s = []
 from_over client most limits (t ∷ ts) s =
     each_from (message_read client t.event s.world) (deeds_at (setting limits t) t.event s.world)
     ++ from_over client most limits ts (turned most limits t s)
 
 -- how many publications are accepted from the message of this number
-abbrev pub times_accepted : List ℕ → ℕ → Most → Limits → List Turn → AsSent → ℕ
+abbrev pub times_accepted : List ℕ → ℕ → Most → Capacity → List Turn → AsSent → ℕ
 times_accepted client n most limits ts s = count_by (nat_eq n) (accepted_over client most limits ts s)

@@ -2,7 +2,7 @@
 -- them (MQTT 5.0, 4.1, 4.2).
 use Rattle.std.specs.Prelude.{◌≡◌, ⊤, ℕ, false, List, [], ◌∷◌, flat_map, map, Some, None}
 use Rattle.mqtt_records.specs.declared.state.records.Records.{Records}
-use Rattle.mqtt_rules.specs.declared.step.Limits.{Limits}
+use Rattle.mqtt_rules.specs.declared.step.Capacity.{Capacity}
 use Rattle.mqtt_rules.specs.step.Deeds.{Deed}
 use Rattle.mqtt_rules.specs.step.Laws.{AreWithin, Asked as calls, Event, Reopened, after_event, after_events, blank}
 use Rattle.mqtt_rules.specs.step.Numbers.{HasAcceptedNumbers}
@@ -43,7 +43,7 @@ pub record IsLeftByCalls (r : Records) : Type 0 where
   pub is : stored (after_events events blank) ≡ r
 
 -- A moment that comes alone is a call too: one on a line that isn't there. It does nothing, and spends no number
-pub record IsMomentAlone (limits : Limits) (choice : MemberChoice) (now : ℕ) (call : Call) (b : Broker) : Type 0 where
+pub record IsMomentAlone (limits : Capacity) (choice : MemberChoice) (now : ℕ) (call : Call) (b : Broker) : Type 0 where
   pub nothing : deeds limits choice now call b ≡ []
   pub unspent : is_step_spent limits choice now call b ≡ false
   pub moment : stepped limits choice now call b ≡ at_moment now b

@@ -2,7 +2,7 @@
 -- each was accepted first and read first (MQTT 5.0, 4.3.2, 4.6).
 use Rattle.std.specs.Prelude.{◌≡◌, ◌<◌, ◌≤◌, ℕ, Bool, true, false, not, List, [], ◌∷◌, filter, Option, Some, None}
 use Rattle.mqtt_base.specs.declared.session.CopyId.{CopyId}
-use Rattle.mqtt_rules.specs.declared.step.Limits.{Limits}
+use Rattle.mqtt_rules.specs.declared.step.Capacity.{Capacity}
 use Rattle.mqtt_world_model.specs.model.Ends.{Entry, Receiver}
 use Rattle.mqtt_world_model.specs.model.Laws.{copies_in, is_copy, stand_among}
 use Rattle.mqtt_world_model.specs.model.Run.{Turn, run}
@@ -30,13 +30,13 @@ publications_read r = publications_in (first_reads r.once)
 -- ---- messages of one publisher
 
 -- the message was accepted as the publication of this number, and not before
-pub record WasFirstAccepted (client : List ℕ) (n number : ℕ) (limits : Limits) (ts : List Turn) (w : World) : Type 0 where
+pub record WasFirstAccepted (client : List ℕ) (n number : ℕ) (limits : Capacity) (ts : List Turn) (w : World) : Type 0 where
   pub accepted : WasAccepted client n number limits ts w
   pub none : times_accepted client n limits accepted.earlier w ≡ 0
 
 -- two messages of one publisher, of whatever QoS: the first was published earlier, was never turned away, and was first accepted as the
 -- first publication; the second was accepted as the second publication, first or again
-pub record WereAccepted (client : List ℕ) (m n first second : ℕ) (limits : Limits) (ts : List Turn) (w : World) : Type 0 where
+pub record WereAccepted (client : List ℕ) (m n first second : ℕ) (limits : Capacity) (ts : List Turn) (w : World) : Type 0 where
   pub earlier : m < n
   pub welcome : WasTurnedAway client m limits ts w → ⊥
   pub first_is : WasFirstAccepted client m first limits ts w
@@ -48,7 +48,7 @@ pub record WereAccepted (client : List ℕ) (m n first second : ℕ) (limits : L
 -- earlier was first accepted before. A receiver first reads publications of QoS 1 in the order in which they were accepted, and so, of
 -- two messages of one publisher, the one that was published earlier first: none of its copies is first read behind one of the later
 -- message. And each copy of QoS 1, also one that a SUBSCRIBE brought, is first read in the order in which the copies entered
-pub record AreReadInOrder (limits : Limits) (ts : List Turn) (w : World) : Type 0 where
+pub record AreReadInOrder (limits : Capacity) (ts : List Turn) (w : World) : Type 0 where
   pub numbered : (client : List ℕ) (n : ℕ) → 1 ≤ times_accepted client n limits ts w
       → (number : ℕ) × WasFirstAccepted client n number limits ts w
   pub accepted : (client : List ℕ) (m n first second : ℕ) → WereAccepted client m n first second limits ts w → first < second

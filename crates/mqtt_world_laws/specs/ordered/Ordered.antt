@@ -4,7 +4,7 @@ use Rattle.std.specs.Prelude.{◌≡◌, ◌<◌, ◌≤◌, ℕ, ⊤, Bool, tru
 use Rattle.std.specs.List.{AllByRecursion}
 use Rattle.mqtt_base.specs.declared.session.CopyId.{CopyId}
 use Rattle.mqtt_flow.specs.inbound.Publisher.{IsExactlyOnce}
-use Rattle.mqtt_rules.specs.declared.step.Limits.{Limits}
+use Rattle.mqtt_rules.specs.declared.step.Capacity.{Capacity}
 use Rattle.mqtt_rules.specs.step.Laws.{IsAmong}
 use Rattle.mqtt_world_model.specs.model.Ends.{Entry, Receiver}
 use Rattle.mqtt_world_model.specs.model.Laws.{copies_in, fate_of, is_own, is_routed}
@@ -32,7 +32,7 @@ IsRising (n ∷ ns) = AllByRecursion (λ (k : ℕ). n ≤ k) ns × IsRising ns
 
 -- in this turn, with those before and behind it, the broker reads a PUBLISH of the message, and accepts it as the publication of
 -- this number
-pub record WasAccepted (client : List ℕ) (n number : ℕ) (limits : Limits) (ts : List Turn) (w : World) : Type 0 where
+pub record WasAccepted (client : List ℕ) (n number : ℕ) (limits : Capacity) (ts : List Turn) (w : World) : Type 0 where
   pub earlier : List Turn
   pub turn : Turn
   pub later : List Turn
@@ -41,7 +41,7 @@ pub record WasAccepted (client : List ℕ) (n number : ℕ) (limits : Limits) (t
   pub number_is : IsAmong number (filter_map client_number (deeds_at (setting limits turn) turn.event (run limits earlier w)))
 
 -- the broker reads a PUBLISH of the message, which it has not accepted before, and does not accept it: it refuses it (4.3.3)
-pub record WasTurnedAway (client : List ℕ) (n : ℕ) (limits : Limits) (ts : List Turn) (w : World) : Type 0 where
+pub record WasTurnedAway (client : List ℕ) (n : ℕ) (limits : Capacity) (ts : List Turn) (w : World) : Type 0 where
   pub earlier : List Turn
   pub turn : Turn
   pub later : List Turn
@@ -51,7 +51,7 @@ pub record WasTurnedAway (client : List ℕ) (n : ℕ) (limits : Limits) (ts : L
 
 -- two messages of one publisher were accepted as the publications of these numbers; the first was published earlier, with QoS 2, and
 -- was never turned away
-pub record WerePublished (client : List ℕ) (m n first second : ℕ) (limits : Limits) (ts : List Turn) (w : World) : Type 0 where
+pub record WerePublished (client : List ℕ) (m n first second : ℕ) (limits : Capacity) (ts : List Turn) (w : World) : Type 0 where
   pub earlier : m < n
   pub exactly_once : IsExactlyOnce (fate_of client m (run limits ts w))
   pub welcome : WasTurnedAway client m limits ts w → ⊥
@@ -79,7 +79,7 @@ StandsFirst first second (e ∷ es) =
 -- Each message that was accepted has its publication. Of two messages of one publisher the one that was published earlier was
 -- accepted first. A receiver was handed publications in the order in which they were accepted, and so, of two messages of one
 -- publisher, the one that was published earlier first
-pub record AreInOrder (limits : Limits) (ts : List Turn) (w : World) : Type 0 where
+pub record AreInOrder (limits : Capacity) (ts : List Turn) (w : World) : Type 0 where
   pub numbered : (client : List ℕ) (n : ℕ) → 1 ≤ times_accepted client n limits ts w
       → (number : ℕ) × WasAccepted client n number limits ts w
   pub accepted : (client : List ℕ) (m n first second : ℕ) → WerePublished client m n first second limits ts w → first < second

@@ -11,7 +11,7 @@ use Rattle.mqtt_records.specs.messages.Queue.{CopyRow}
 use Rattle.mqtt_records.specs.declared.state.session.Session.{Session}
 use Rattle.mqtt_records.specs.declared.state.subscription.Subscription.{Subscription}
 use Rattle.mqtt_routes.specs.routing.Intended.{granted_qos, is_hit}
-use Rattle.mqtt_rules.specs.declared.step.Limits.{Limits}
+use Rattle.mqtt_rules.specs.declared.step.Capacity.{Capacity}
 use Rattle.mqtt_rules.specs.step.Laws.{IsAmong}
 use Rattle.mqtt_rules.specs.step.Routing.{answers, publication_of, routed_subscription}
 use Rattle.mqtt_rules.specs.step.State.{Broker, session_at, session_named}
@@ -34,7 +34,7 @@ content_of client n w = content_at n (carriers client w)
 
 -- In this turn, with those before and behind it, the broker reads a PUBLISH of the message, and accepts it, with its topic, payload
 -- and RETAIN
-pub record WasPublished (client : List ℕ) (n : ℕ) (limits : Limits) (ts : List Turn) (w : World) : Type 0 where
+pub record WasPublished (client : List ℕ) (n : ℕ) (limits : Capacity) (ts : List Turn) (w : World) : Type 0 where
   pub earlier : List Turn
   pub turn : Turn
   pub later : List Turn
@@ -85,7 +85,7 @@ pub record IsWaiting (reader : List ℕ) (copy : CopyId) (b : Broker) : Type 0 w
   pub is : row.copy.id ≡ copy
 
 -- it has ended in these turns, as one of the client's, for the cause that its end has, with what that says of the receiver
-pub record HasEnded (limits : Limits) (ts : List Turn) (w : World) (reader : List ℕ) (copy : CopyId) (r : Receiver)
+pub record HasEnded (limits : Capacity) (ts : List Turn) (w : World) (reader : List ℕ) (copy : CopyId) (r : Receiver)
     : Type 0 where
   pub end : EndAt
   pub among : IsAmong end (ends_over limits ts w)
@@ -101,7 +101,7 @@ CarriesMessage content copy e =
 
 -- The copy entered once. It waits in the queue of the client's session, or it has ended since it was accepted; so it has ended if
 -- that queue is empty, as it is after a drain. The receiver was handed it once at most, with the message's topic and payload
-pub record IsReceived (limits : Limits) (since : List Turn) (v : World) (ts : List Turn) (w : World) (content : Content)
+pub record IsReceived (limits : Capacity) (since : List Turn) (v : World) (ts : List Turn) (w : World) (content : Content)
     (reader : List ℕ) (copy : CopyId) (r : Receiver) : Type 0 where
   pub enters : count_of copy (entered_from limits ts w) ≡ 1
   pub fate : IsWaiting reader copy (run limits ts w).broker ⊎ HasEnded limits since v reader copy r
@@ -110,7 +110,7 @@ pub record IsReceived (limits : Limits) (since : List Turn) (v : World) (ts : Li
   pub contents : All (CarriesMessage content copy) r.ledger × All (CarriesMessage content copy) r.once
 
 -- so of a message that was published in a run, for each client that had subscribed then and whose receiver was there
-abbrev pub ReachesEach : (client : List ℕ) (n : ℕ) (limits : Limits) (ts : List Turn) (w : World)
+abbrev pub ReachesEach : (client : List ℕ) (n : ℕ) (limits : Capacity) (ts : List Turn) (w : World)
     → WasPublished client n limits ts w → Type 0
 ReachesEach client n limits ts w p =
     let v = run limits p.earlier w in
@@ -123,7 +123,7 @@ ReachesEach client n limits ts w p =
 
 -- A message of QoS 2 whose handshake is completed was published, exactly once; one of QoS 1 that was acknowledged at least once. And
 -- a message that was published reaches each who had subscribed
-pub record ArePassedOn (limits : Limits) (ts : List Turn) (w : World) : Type 0 where
+pub record ArePassedOn (limits : Capacity) (ts : List Turn) (w : World) : Type 0 where
   pub complete : (client : List ℕ) (n : ℕ) → fate_of client n (run limits ts w) ≡ Some (ended completed)
       → (times_accepted client n limits ts w ≡ 1) × WasPublished client n limits ts w
   pub acknowledged : (client : List ℕ) (n : ℕ) → fate_of client n (run limits ts w) ≡ Some (ended_1 completed)
@@ -133,7 +133,7 @@ pub record ArePassedOn (limits : Limits) (ts : List Turn) (w : World) : Type 0 w
 -- ---- after a drain
 
 -- of all that was published, the copies for this client have ended: its receiver took each, or it has another cause
-abbrev pub HasReceivedAll : List ℕ → Limits → List Turn → World → Type 0
+abbrev pub HasReceivedAll : List ℕ → Capacity → List Turn → World → Type 0
 HasReceivedAll reader limits ts w =
     (client : List ℕ) (n : ℕ) (p : WasPublished client n limits ts w) (q r : Receiver)
     → receiver_named reader (run limits p.earlier w) ≡ Some q → receiver_named reader (run limits ts w) ≡ Some r

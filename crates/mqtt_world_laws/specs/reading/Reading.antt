@@ -3,7 +3,7 @@ use Rattle.std.specs.Prelude.{⊤, List, Option, Some, None}
 use Rattle.std.specs.List.{AllByRecursion}
 use Rattle.mqtt_rules.specs.step.Contents.{TakesLawful}
 use Rattle.mqtt_rules.specs.step.Step.{Call}
-use Rattle.mqtt_rules.specs.declared.step.Limits.{Limits}
+use Rattle.mqtt_rules.specs.declared.step.Capacity.{Capacity}
 use Rattle.mqtt_world_model.specs.model.Run.{Turn}
 use Rattle.mqtt_world_model.specs.model.World.{World}
 use Rattle.mqtt_world_laws.specs.causes.Endings.{Asked, asked_over}
@@ -17,5 +17,5 @@ abbrev pub ReadsLawful : Asked → Type 0
 ReadsLawful x = TakesAsked x.call
 
 -- so is each that a run reads
-abbrev pub AllReadLawful : Limits → List Turn → World → Type 0
+abbrev pub AllReadLawful : Capacity → List Turn → World → Type 0
 AllReadLawful limits ts w = AllByRecursion ReadsLawful (asked_over limits ts w)

@@ -14,13 +14,13 @@ use Rattle.mqtt_records.specs.declared.state.session.Session.{Session}
 use Rattle.mqtt_rules.specs.step.Numbers.{HasGivenBirths}
 use Rattle.mqtt_rules.specs.step.State.{Line as BrokerLine, Broker, MemberChoice, is_of, line_at, line_of, session_named}
 use Rattle.mqtt_rules.specs.step.Step.{Call, Input, stepped, told}
-use Rattle.mqtt_rules.specs.declared.step.Limits.{Limits}
+use Rattle.mqtt_rules.specs.declared.step.Capacity.{Capacity}
 use Rattle.mqtt_topic.specs.names.Names.{is_empty}
 use Rattle.mqtt_world_laws.specs.receiver.Handing.{IsListening}
 use Rattle.mqtt_world_laws.specs.receiver.Seen.{answered}
 
 -- the receiver after a call that takes nothing off its lines
-abbrev pub receiver_called : Limits → MemberChoice → ℕ → Call → Receiver → Broker → Receiver
+abbrev pub receiver_called : Capacity → MemberChoice → ℕ → Call → Receiver → Broker → Receiver
 receiver_called limits choice now call r b =
     receiver_told (stepped limits choice now call b) (told limits choice now call b) r
 
@@ -37,7 +37,7 @@ abbrev pub IsLingering : Receiver → BrokerLine → Session → Broker → Type
 IsLingering r l s b = IsListening (turned_back r) l s b
 
 -- the receiver after the first packet of that line was read
-abbrev pub reads_old_answer : Limits → MemberChoice → ℕ → ℕ → Answer → Receiver → Broker → Receiver
+abbrev pub reads_old_answer : Capacity → MemberChoice → ℕ → ℕ → Answer → Receiver → Broker → Receiver
 reads_old_answer limits choice now n a r b =
     receiver_called limits choice now (Input n (wire_back r.client r.window r.aliases (answers a)))
     (record r { line = taken_old r.line }) b
@@ -67,7 +67,7 @@ IsUnused birth l = is_of l.session birth ≡ false
 
 -- its line waits for CONNECT, and no session of its name stands; what is under way on the line that it gave up is a CONNECT,
 -- or it is nothing
-pub record IsBeginning (limits : Limits) (r : Receiver) (l : BrokerLine) (b : Broker) : Type 0 where
+pub record IsBeginning (limits : Capacity) (r : Receiver) (l : BrokerLine) (b : Broker) : Type 0 where
   pub number : r.line.number ≡ Some l.number
   pub line : line_at l.number b ≡ Some l
   pub waits : l.session ≡ None
@@ -82,7 +82,7 @@ pub record IsBeginning (limits : Limits) (r : Receiver) (l : BrokerLine) (b : Br
   pub old : filter_map answered r.line.old ≡ spared (filter_map answered r.line.old)
 
 -- its line waits for CONNECT with Clean Start while its session stands, and there are no more sessions than the limit
-pub record IsRenewing (limits : Limits) (r : Receiver) (l : BrokerLine) (s : Session) (b : Broker) : Type 0 where
+pub record IsRenewing (limits : Capacity) (r : Receiver) (l : BrokerLine) (s : Session) (b : Broker) : Type 0 where
   pub resuming : IsResuming r l s b
   pub births : HasGivenBirths b.records
   pub unused : AllByRecursion (IsUnused (suc b.records.births)) b.lines

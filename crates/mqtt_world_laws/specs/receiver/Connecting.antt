@@ -12,7 +12,7 @@ use Rattle.mqtt_rules.specs.step.Flight.{HasDistinctIdentifiers}
 use Rattle.mqtt_rules.specs.step.Laws.{AreWithin, IsOrdered}
 use Rattle.mqtt_rules.specs.step.State.{Line as BrokerLine, MemberChoice, session_named}
 use Rattle.mqtt_rules.specs.step.Step.{Input, is_step_spent}
-use Rattle.mqtt_rules.specs.declared.step.Limits.{Limits}
+use Rattle.mqtt_rules.specs.declared.step.Capacity.{Capacity}
 use Rattle.mqtt_rules.specs.whole.Whole.{AreNoLarger}
 use Rattle.mqtt_world_laws.specs.acceptance.Fair.{IsSteady}
 use Rattle.mqtt_world_laws.specs.receiver.Calls.{IsRenewing, IsResuming}
@@ -28,7 +28,7 @@ any_size = 0xffffffff
 -- it is the receiver of this name, which no publisher has; its CONNECT is all that is under way from it, and nothing is under way
 -- to it; lines and tables are in order, what its session has queued fits with whole topics, and reading the CONNECT spends no
 -- number
-pub record IsJoining (limits : Limits) (choice : MemberChoice) (clean : Bool) (client : List ℕ) (r : Receiver) (l : BrokerLine)
+pub record IsJoining (limits : Capacity) (choice : MemberChoice) (clean : Bool) (client : List ℕ) (r : Receiver) (l : BrokerLine)
     (w : World) : Type 0 where
   pub named : receiver_named client w ≡ Some r
   pub alone : publisher_named client w ≡ None
@@ -45,14 +45,14 @@ pub record IsJoining (limits : Limits) (choice : MemberChoice) (clean : Bool) (c
       is_step_spent limits choice w.now (Input l.number (wire_back r.client r.window r.aliases (answers (connect clean)))) w.broker ≡ false
 
 -- the two are in step, and its session stands, connected on another line or on none: the CONNECT resumes it
-pub record MayResume (limits : Limits) (choice : MemberChoice) (ids : List CopyId) (birth : ℕ) (ns : List ℕ) (client : List ℕ)
+pub record MayResume (limits : Capacity) (choice : MemberChoice) (ids : List CopyId) (birth : ℕ) (ns : List ℕ) (client : List ℕ)
     (r : Receiver) (l : BrokerLine) (s : Session) (w : World) : Type 0 where
   pub joining : IsJoining limits choice false client r l w
   pub in_step : IsInStep any_size ids birth ns r w.broker
   pub resuming : IsResuming r l s w.broker
 
 -- the same with Clean Start: the session ends, and a new one begins
-pub record MayRenew (limits : Limits) (choice : MemberChoice) (ids : List CopyId) (birth : ℕ) (ns : List ℕ) (client : List ℕ)
+pub record MayRenew (limits : Capacity) (choice : MemberChoice) (ids : List CopyId) (birth : ℕ) (ns : List ℕ) (client : List ℕ)
     (r : Receiver) (l : BrokerLine) (s : Session) (w : World) : Type 0 where
   pub joining : IsJoining limits choice true client r l w
   pub in_step : IsInStep any_size ids birth ns r w.broker

@@ -4,7 +4,7 @@ use Rattle.std.specs.Prelude.{ℕ, zero, suc, ◌+◌, ◌*◌, Bool, true, fals
 use Rattle.std.specs.Prelude.{Option, Some, None}
 use Rattle.mqtt_records.specs.declared.state.session.Session.{Session}
 use Rattle.mqtt_rules.specs.step.State.{MemberChoice, session_named}
-use Rattle.mqtt_rules.specs.declared.step.Limits.{Limits}
+use Rattle.mqtt_rules.specs.declared.step.Capacity.{Capacity}
 use Rattle.mqtt_world_model.specs.model.Ends.{Receiver}
 use Rattle.mqtt_world_model.specs.model.Lines.{stands}
 use Rattle.mqtt_world_model.specs.model.Run.{Turn, run}
@@ -63,14 +63,14 @@ abbrev pub all_to_broker : MemberChoice → List ℕ → World → List Turn
 all_to_broker choice client w = times (ups_by (receiver_named client w)) (turn_of choice (ask (to_broker client)))
 
 -- the broker sends, the receiver reads all, and the broker reads all
-abbrev pub round_turns : Limits → MemberChoice → List ℕ → World → List Turn
+abbrev pub round_turns : Capacity → MemberChoice → List ℕ → World → List Turn
 round_turns limits choice client w =
     let sends = turn_of choice (ask (pump client)) ∷ [] in
     let sent = run limits sends w in
     let reads = all_to_end choice client sent in
     sends ++ reads ++ all_to_broker choice client (run limits reads sent)
 
-abbrev pub after_round : Limits → MemberChoice → List ℕ → World → World
+abbrev pub after_round : Capacity → MemberChoice → List ℕ → World → World
 after_round limits choice client w = run limits (round_turns limits choice client w) w
 
 -- ---- a drain of so many rounds at most
@@ -79,7 +79,7 @@ abbrev pub drain_by : Bool → List Turn → List Turn → List Turn
 drain_by true turns rest = []
 drain_by false turns rest = turns ++ rest
 
-abbrev pub drain_turns : Limits → MemberChoice → List ℕ → ℕ → World → List Turn
+abbrev pub drain_turns : Capacity → MemberChoice → List ℕ → ℕ → World → List Turn
 drain_turns limits choice client zero w = []
 drain_turns limits choice client (suc more) w =
     drain_by (is_over client w) (round_turns limits choice client w)
@@ -90,13 +90,13 @@ count_by_end true more = 0
 count_by_end false more = suc more
 
 -- how many rounds it takes
-abbrev pub rounds_taken : Limits → MemberChoice → List ℕ → ℕ → World → ℕ
+abbrev pub rounds_taken : Capacity → MemberChoice → List ℕ → ℕ → World → ℕ
 rounds_taken limits choice client zero w = 0
 rounds_taken limits choice client (suc more) w =
     count_by_end (is_over client w)
     (rounds_taken limits choice client more (after_round limits choice client w))
 
-abbrev pub drained : Limits → MemberChoice → List ℕ → ℕ → World → World
+abbrev pub drained : Capacity → MemberChoice → List ℕ → ℕ → World → World
 drained limits choice client most w = run limits (drain_turns limits choice client most w) w
 
 -- so many rounds are enough for so many copies, those that stand at the start and those that enter during it
@@ -110,18 +110,18 @@ pub data Doing : Type 0 where
   drains : (choice : MemberChoice) (client : List ℕ) (most : ℕ) → Doing
 
 -- a bad one does nothing
-abbrev pub turns_of : Limits → Doing → World → List Turn
+abbrev pub turns_of : Capacity → Doing → World → List Turn
 turns_of limits (happens t) w = t ∷ []
 turns_of limits (drains choice client most) w =
     cond (is_bad_drain client w) [] (drain_turns limits choice client most w)
 
-abbrev pub all_turns : Limits → List Doing → World → List Turn
+abbrev pub all_turns : Capacity → List Doing → World → List Turn
 all_turns limits [] w = []
 all_turns limits (d ∷ ds) w =
     let turns = turns_of limits d w in
     turns ++ all_turns limits ds (run limits turns w)
 
 -- the world after them
-abbrev pub after_doings : Limits → List Doing → World → World
+abbrev pub after_doings : Capacity → List Doing → World → World
 after_doings limits [] w = w
 after_doings limits (d ∷ ds) w = after_doings limits ds (run limits (turns_of limits d w) w)

@@ -18,7 +18,7 @@ use Rattle.mqtt_rules.specs.step.State.{Line as BrokerLine, Broker, MemberChoice
 use Rattle.mqtt_rules.specs.step.State.{session_named}
 use Rattle.mqtt_rules.specs.step.Closing.{never}
 use Rattle.mqtt_rules.specs.step.Step.{Call, Input, Lost, NewLine, stepped, told}
-use Rattle.mqtt_rules.specs.declared.step.Limits.{Limits}
+use Rattle.mqtt_rules.specs.declared.step.Capacity.{Capacity}
 use Rattle.mqtt_world_laws.specs.receiver.Seen.{AreQueued, Numbering, seen}
 use Rattle.mqtt_world_laws.specs.receiver.Tags.{AreNumbered, AreTagged, id_of}
 
@@ -45,18 +45,18 @@ IsOf number copies e =
 -- ---- its own doings
 
 -- it joins by a new line
-abbrev pub receiver_joined : Limits → MemberChoice → ℕ → Bool → Receiver → Broker → Receiver
+abbrev pub receiver_joined : Capacity → MemberChoice → ℕ → Bool → Receiver → Broker → Receiver
 receiver_joined limits choice now clean r b =
     let q = receiver_told (stepped limits choice now NewLine b) (told limits choice now NewLine b) r in
     record q { line = joined (answers (connect clean)) (suc b.given) clean q.line }
 
 -- a CONNECT for which there is a line, by a receiver that has none, which carries a Clean Start through
-abbrev pub MayComeBack : Bool → Receiver → Broker → Type 0
-MayComeBack clean r b = MayConnect clean r.line b
+abbrev pub MayComeBack : Capacity → Bool → Receiver → Broker → Type 0
+MayComeBack limits clean r b = MayConnect limits clean r.line b
 
 -- ---- a step in which the first packet of its line was read
 
-abbrev pub receiver_after : Limits → MemberChoice → ℕ → Call → Receiver → Broker → Receiver
+abbrev pub receiver_after : Capacity → MemberChoice → ℕ → Call → Receiver → Broker → Receiver
 receiver_after limits choice now call r b =
     let q = record r { line = taken_up r.line } in
     receiver_told (stepped limits choice now call b) (told limits choice now call b) q
@@ -87,16 +87,16 @@ pub record RunsOn (number : Numbering) (largest : ℕ) (copies : List Lot) (r : 
   pub same : map id_of after ≡ map id_of copies
   pub run_is : IsRun number largest after r b
 
-abbrev pub reads_answer : Limits → MemberChoice → ℕ → ℕ → Answer → Receiver → Broker → Receiver
+abbrev pub reads_answer : Capacity → MemberChoice → ℕ → ℕ → Answer → Receiver → Broker → Receiver
 reads_answer limits choice now n a r b =
     receiver_after limits choice now (Input n (wire_back r.client r.window r.aliases (answers a))) r b
 
-abbrev pub after_answer : Limits → MemberChoice → ℕ → ℕ → Answer → Receiver → Broker → Broker
+abbrev pub after_answer : Capacity → MemberChoice → ℕ → ℕ → Answer → Receiver → Broker → Broker
 after_answer limits choice now n a r b = stepped limits choice now (Input n (wire_back r.client r.window r.aliases (answers a))) b
 
 -- ---- its line is lost, and it leaves it
 
-abbrev pub receiver_lost : Limits → MemberChoice → ℕ → ℕ → Receiver → Broker → Receiver
+abbrev pub receiver_lost : Capacity → MemberChoice → ℕ → ℕ → Receiver → Broker → Receiver
 receiver_lost limits choice now n r b =
     let q = receiver_told (stepped limits choice now (Lost n) b) (told limits choice now (Lost n) b) r in
     record q { line = left q.line }

@@ -5,11 +5,11 @@ use Rattle.mqtt_world_model.specs.model.Ends.{Receiver, Wish, asks_for, wire_bac
 use Rattle.mqtt_world_model.specs.model.World.{taken_old}
 use Rattle.mqtt_rules.specs.step.State.{Broker, MemberChoice}
 use Rattle.mqtt_rules.specs.step.Step.{Input}
-use Rattle.mqtt_rules.specs.declared.step.Limits.{Limits}
+use Rattle.mqtt_rules.specs.declared.step.Capacity.{Capacity}
 use Rattle.mqtt_world_laws.specs.receiver.Calls.{receiver_called}
 
 -- the receiver after the first packet of that line, a SUBSCRIBE, was read
-abbrev pub reads_old_wish : Limits → MemberChoice → ℕ → ℕ → Wish → Receiver → Broker → Receiver
+abbrev pub reads_old_wish : Capacity → MemberChoice → ℕ → ℕ → Wish → Receiver → Broker → Receiver
 reads_old_wish limits choice now n w r b =
     receiver_called limits choice now (Input n (wire_back r.client r.window r.aliases (asks_for w)))
     (record r { line = taken_old r.line }) b

@@ -16,7 +16,7 @@ use Rattle.mqtt_rules.specs.step.Laws.{IsOrdered}
 use Rattle.mqtt_rules.specs.step.State.{Line as BrokerLine, Broker}
 use Rattle.mqtt_rules.specs.step.Step.{Call, NewLine, Input, BadInput, Lost, Pump, Tick}
 use Rattle.mqtt_rules.specs.step.Tick.{is_silent}
-use Rattle.mqtt_rules.specs.declared.step.Limits.{Limits}
+use Rattle.mqtt_rules.specs.declared.step.Capacity.{Capacity}
 use Rattle.mqtt_world_laws.specs.receiver.Entering.{IsReceiving}
 use Rattle.mqtt_world_laws.specs.receiver.Handing.{IsRun}
 use Rattle.mqtt_world_laws.specs.receiver.Seen.{Numbering}
@@ -47,7 +47,7 @@ pub record HasLines (ns : List ℕ) (r : Receiver) : Type 0 where
 
 -- of the broker: tables are in order, and it allows a queue no more copies than they hold; queues that stand may be longer
 -- than it allows
-pub record IsTidy (limits : Limits) (b : Broker) : Type 0 where
+pub record IsTidy (limits : Capacity) (b : Broker) : Type 0 where
   pub ordered : IsOrdered b.records
   pub within : limits.queue ≤ QUEUE_LIMIT
 

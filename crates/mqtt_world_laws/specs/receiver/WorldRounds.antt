@@ -18,7 +18,7 @@ use Rattle.mqtt_rules.specs.step.Lines.{HasUniqueLines}
 use Rattle.mqtt_rules.specs.step.State.{Line as BrokerLine, Broker, MemberChoice, line_at, queued_copy, session_at}
 use Rattle.mqtt_rules.specs.step.Step.{at_moment}
 use Rattle.mqtt_rules.specs.step.Subscribe.{Wish, retained_copy}
-use Rattle.mqtt_rules.specs.declared.step.Limits.{Limits}
+use Rattle.mqtt_rules.specs.declared.step.Capacity.{Capacity}
 use Rattle.mqtt_rules.specs.whole.Whole.{AreNoLarger}
 use Rattle.mqtt_world_laws.specs.receiver.Drains.{after_round, copies_left}
 use Rattle.mqtt_world_laws.specs.receiver.Handing.{IsRun}
@@ -95,7 +95,7 @@ AllBringNoLarger largest ks (answers a) = ⊤
 AllBringNoLarger largest ks (asks_for w) = AllByRecursion (BringsNoLarger largest w.identifier) ks
 
 -- as `MayDrain`, but that a SUBSCRIBE may be under way, which brings nothing that is too large
-pub record MayAsk (limits : Limits) (largest window : ℕ) (ids : List CopyId) (birth : ℕ) (ns : List ℕ)
+pub record MayAsk (limits : Capacity) (largest window : ℕ) (ids : List CopyId) (birth : ℕ) (ns : List ℕ)
     (client : List ℕ) (r : Receiver) (w : World) : Type 0 where
   pub named : receiver_named client w ≡ Some r
   pub alone : publisher_named client w ≡ None
@@ -153,7 +153,7 @@ pub record ComesTo (number : Numbering) (largest window : ℕ) (ids : List CopyI
   pub seen_is : seen number copies receiver w.broker ≡ hop
 
 -- the moments of so many rounds of a drain
-abbrev pub moments_of : Limits → MemberChoice → List ℕ → ℕ → World → List ℕ
+abbrev pub moments_of : Capacity → MemberChoice → List ℕ → ℕ → World → List ℕ
 moments_of limits choice client zero w = []
 moments_of limits choice client (suc more) w =
     moment_of w ∷ moments_of limits choice client more (after_round limits choice client w)

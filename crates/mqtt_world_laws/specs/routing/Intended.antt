@@ -5,7 +5,7 @@ use Rattle.std.specs.List.{AllByRecursion, list_any}
 use Rattle.mqtt_base.specs.declared.session.CopyId.{CopyId}
 use Rattle.mqtt_routes.specs.routing.Intended.{Copy}
 use Rattle.mqtt_routes.specs.routing.Acceptance.{Served, Routed}
-use Rattle.mqtt_rules.specs.declared.step.Limits.{Limits}
+use Rattle.mqtt_rules.specs.declared.step.Capacity.{Capacity}
 use Rattle.mqtt_rules.specs.step.Routing.{CopyTo, copies_to, is_queued, accepted_copies, routing_of, answers, publication_of, subscribers}
 use Rattle.mqtt_world_model.specs.model.World.{World}
 use Rattle.mqtt_world_model.specs.model.Run.{Turn, Acceptance, acceptances_over}
@@ -32,13 +32,13 @@ enters_queue None = false
 enters_queue (Some c) = nat_lt 0 c.qos
 
 -- of a group's copies of the publication there entered one, or none if none of its members got one with QoS 1 or 2
-abbrev pub EntersForGroup : Limits → List Turn → World → ℕ → Served → Type 0
+abbrev pub EntersForGroup : Capacity → List Turn → World → ℕ → Served → Type 0
 EntersForGroup limits ts w number s =
     count_by (is_groups number s.group) (entered_from limits ts w) ≡ cond (enters_queue s.copy) 1 0
 
 -- A publication that was accepted went to each session and each group that was to get a copy; of its copies those with
 -- QoS 1 or 2 entered in the run, in their order, each once, and no other
-pub record EntersAsIntended (limits : Limits) (ts : List Turn) (w : World) (a : Acceptance) : Type 0 where
+pub record EntersAsIntended (limits : Capacity) (ts : List Turn) (w : World) (a : Acceptance) : Type 0 where
   pub routing : Routed
   pub routing_is : routing_of a.env a.message a.broker.records ≡ Some routing
   pub copies_are : accepted_copies a.env a.message a.broker ≡ Some (intended_for a routing)
@@ -50,5 +50,5 @@ pub record EntersAsIntended (limits : Limits) (ts : List Turn) (w : World) (a : 
   pub groups : AllByRecursion (EntersForGroup limits ts w a.number) routing.served
 
 -- so each that was accepted
-abbrev pub AllEnterAsIntended : Limits → List Turn → World → Type 0
+abbrev pub AllEnterAsIntended : Capacity → List Turn → World → Type 0
 AllEnterAsIntended limits ts w = AllByRecursion (EntersAsIntended limits ts w) (acceptances_over limits ts w)

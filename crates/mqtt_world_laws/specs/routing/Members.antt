@@ -2,7 +2,7 @@
 -- while the broker opens: nobody is connected then (4.1).
 use Rattle.std.specs.Prelude.{◌≡◌, false, List, Some}
 use Rattle.std.specs.List.{AllByRecursion}
-use Rattle.mqtt_rules.specs.declared.step.Limits.{Limits}
+use Rattle.mqtt_rules.specs.declared.step.Capacity.{Capacity}
 use Rattle.mqtt_rules.specs.step.State.{Broker, Line, line_of}
 use Rattle.mqtt_rules.specs.step.Routing.{CopyTo, accepted_copies, is_queued}
 use Rattle.mqtt_world_model.specs.model.World.{World}
@@ -17,5 +17,5 @@ HasLine b d = is_queued d ≡ false → is_direct d.copy.id.cause ≡ false → 
 abbrev pub HaveLines : Acceptance → Type 0
 HaveLines a = (ds : List CopyTo) → accepted_copies a.env a.message a.broker ≡ Some ds → AllByRecursion (HasLine a.broker) ds
 
-abbrev pub AllHaveLines : Limits → List Turn → World → Type 0
+abbrev pub AllHaveLines : Capacity → List Turn → World → Type 0
 AllHaveLines limits ts w = AllByRecursion HaveLines (acceptances_over limits ts w)

@@ -3,7 +3,7 @@
 use Rattle.std.specs.Prelude.{ℕ, zero, suc, cond, List, [], ◌∷◌, ◌++◌, map, bytes_eq, Option, Some, None}
 use Rattle.mqtt_topic.specs.names.Aliases.{AliasTable, no_aliases}
 use Rattle.mqtt_topic.specs.sending.Told.{most_of}
-use Rattle.mqtt_rules.specs.declared.step.Limits.{Limits}
+use Rattle.mqtt_rules.specs.declared.step.Capacity.{Capacity}
 use Rattle.mqtt_rules.specs.step.State.{Broker, Telling}
 use Rattle.mqtt_rules.specs.step.Deeds.{Deed, LinePart, Greet, On, after_all, wires}
 use Rattle.mqtt_rules.specs.step.Step.{Call, Outcome, at_moment, deeds, stepped, told}
@@ -150,7 +150,7 @@ happens most set (receiver client window aliases) s = record {
 happens most set (connect_end client clean) s = record {
   world = meant.happens set (connect_end client clean) s.world;
   tellings = s.tellings;
-  known = known_joined most (next_line s.world.broker) client s;
+  known = known_joined most (next_line set.limits s.world.broker) client s;
 }
 happens most set (to_end client) s =
     record { world = end_reads client s; tellings = s.tellings; known = known_read client s }
@@ -161,13 +161,13 @@ happens most set (stop_after a) s = restarted set (first_step most set a s)
 happens most set e s = in_world (meant.happens set e s.world) s
 
 -- a bad event does nothing
-abbrev pub turned : Most → Limits → Turn → AsSent → AsSent
+abbrev pub turned : Most → Capacity → Turn → AsSent → AsSent
 turned most limits t s = cond (is_bad t.event s.world) s (happens most (setting limits t) t.event s)
 
-abbrev pub run : Most → Limits → List Turn → AsSent → AsSent
+abbrev pub run : Most → Capacity → List Turn → AsSent → AsSent
 run most limits [] s = s
 run most limits (t ∷ ts) s = run most limits ts (turned most limits t s)
 
 -- the world after these turns, from nothing
-abbrev pub after : Most → Limits → List Turn → AsSent
+abbrev pub after : Most → Capacity → List Turn → AsSent
 after most limits ts = run most limits ts start_as_sent

@@ -2,7 +2,7 @@
 use Rattle.std.specs.Prelude.{◌≡◌, ℕ, ⊤, true, List, [], ◌∷◌, map, Option, Some, None, is_some}
 use Rattle.std.specs.List.{AllByRecursion}
 use Rattle.mqtt_topic.specs.names.Aliases.{AliasTable}
-use Rattle.mqtt_rules.specs.declared.step.Limits.{Limits}
+use Rattle.mqtt_rules.specs.declared.step.Capacity.{Capacity}
 use Rattle.mqtt_rules.specs.step.State.{Telling, told_on}
 use Rattle.mqtt_rules.specs.telling.Meaning.{Knows, Means, SendsItsTopic, after_reading}
 use Rattle.mqtt_world_model.specs.model.Lines.{Down, Line}
@@ -79,7 +79,7 @@ Likewise most s w = WorldsAlike most s.tellings s.known s.world w
 -- ---- what is asked of a run
 
 -- each PUBLISH that the broker means has a topic name, and no Topic Alias
-abbrev pub AllSendTopics : Limits → List Turn → Type 0
+abbrev pub AllSendTopics : Capacity → List Turn → Type 0
 AllSendTopics limits ts = AllByRecursion SendsItsTopic (deeds_over limits ts start)
 
 -- ---- what is said of receivers

@@ -7,7 +7,7 @@ use Rattle.mqtt_packet.specs.declared.codec.publish.Publish.{Publish}
 use Rattle.mqtt_records.specs.declared.messages.message.MessageCopy.{MessageCopy}
 use Rattle.mqtt_records.specs.declared.state.session.Session.{Session}
 use Rattle.mqtt_records.specs.messages.Queue.{CopyRow}
-use Rattle.mqtt_rules.specs.declared.step.Limits.{Limits}
+use Rattle.mqtt_rules.specs.declared.step.Capacity.{Capacity}
 use Rattle.mqtt_rules.specs.step.Deeds.{At, Deed, Enter, Send, Whose}
 use Rattle.mqtt_rules.specs.step.Laws.{IsAmong}
 use Rattle.mqtt_rules.specs.step.Packets.{publish_of}
@@ -68,5 +68,5 @@ AllAskedOver old before (x ∷ xs) =
     × AllAskedOver old (before ++ x ∷ []) xs
 
 -- nobody is sent what he did not ask for, in a run; these copies waited at its beginning
-abbrev pub NobodyIsSentUnasked : List (ℕ × MessageCopy) → Limits → List Turn → World → Type 0
+abbrev pub NobodyIsSentUnasked : List (ℕ × MessageCopy) → Capacity → List Turn → World → Type 0
 NobodyIsSentUnasked old limits ts w = AllAskedOver old [] (asked_over limits ts w)

@@ -16,7 +16,7 @@ use Rattle.mqtt_records.specs.declared.state.session.Session.{Session}
 use Rattle.mqtt_records.specs.declared.state.subscription.Subscription.{Subscription}
 use Rattle.mqtt_records.specs.messages.PassedOn.{number_at}
 use Rattle.mqtt_records.specs.messages.Queue.{CopyRow}
-use Rattle.mqtt_rules.specs.declared.step.Limits.{Limits}
+use Rattle.mqtt_rules.specs.declared.step.Capacity.{Capacity}
 use Rattle.mqtt_rules.specs.step.Deeds.{Deed, At, Enter, Send, Subscribe, Whose}
 use Rattle.mqtt_rules.specs.step.Laws.{IsAmong}
 use Rattle.mqtt_rules.specs.step.Packets.{publish_of}
@@ -92,7 +92,7 @@ abbrev pub SendsNothingUnasked : Asked → Type 0
 SendsNothingUnasked x = AreTraced x.call (moments_in x) (moments_in x)
 
 -- a call of a broker, as a step
-abbrev pub call_step : Limits → MemberChoice → ℕ → Call → Broker → Asked
+abbrev pub call_step : Capacity → MemberChoice → ℕ → Call → Broker → Asked
 call_step limits choice now call b = record {
   call = Some call;
   step = record {
@@ -103,7 +103,7 @@ call_step limits choice now call b = record {
 }
 
 -- and an opening
-abbrev pub open_step : Limits → MemberChoice → ℕ → Records → Asked
+abbrev pub open_step : Capacity → MemberChoice → ℕ → Records → Asked
 open_step limits choice now r = let b = unopened now r in record {
   call = None;
   step = record {

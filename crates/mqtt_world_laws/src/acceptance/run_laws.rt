@@ -3,7 +3,7 @@
 ghost use Rattle.std.specs.Prelude.{ℕ, List};
 ghost use Rattle.mqtt_base.specs.declared.session.CopyId.{CopyId};
 ghost use Rattle.mqtt_records.specs.declared.state.records.Records.{Records};
-ghost use Rattle.mqtt_rules.specs.declared.step.Limits.{Limits};
+ghost use Rattle.mqtt_rules.specs.declared.step.Capacity.{Capacity};
 ghost use Rattle.mqtt_rules.specs.step.State.{MemberChoice};
 ghost use Rattle.mqtt_rules.specs.step.Laws.{AreWithin, FewOpen};
 ghost use Rattle.mqtt_rules.specs.step.Step.{Call};
@@ -22,11 +22,11 @@ ghost use Rattle.mqtt_world_laws.specs.acceptance.Once.{HasCarried, IsAcceptedOn
 /// acknowledged at least once; what was accepted carries the message's topic, payload and RETAIN with the
 /// publisher's name; and no session has over 20 identifiers open (3.3, 4.3.2, 4.3.3, 4.9).
 pub fn every_run_accepts_once()
-    ensures once { (limits : Limits) (ts : List Turn) (w : World) → IsNew w → IsFair limits ts w
+    ensures once { (limits : Capacity) (ts : List Turn) (w : World) → IsNew w → IsFair limits ts w
         → (client : List ℕ) (n : ℕ) → IsAcceptedOnce client n limits ts w }
-    ensures carried { (limits : Limits) (ts : List Turn) (w : World) → IsNew w → IsFair limits ts w
+    ensures carried { (limits : Capacity) (ts : List Turn) (w : World) → IsNew w → IsFair limits ts w
         → (client : List ℕ) → HasCarried client limits ts w }
-    ensures within { (limits : Limits) (ts : List Turn) (w : World) → IsNew w → IsFair limits ts w
+    ensures within { (limits : Capacity) (ts : List Turn) (w : World) → IsNew w → IsFair limits ts w
         → FewOpen (run limits ts w).broker.records }
 {}
 
@@ -34,7 +34,7 @@ pub fn every_run_accepts_once()
 /// queue waits there or has ended, as often as it entered; none is lost by a restart or a stop, and none ends
 /// more often than it entered (4.3, 4.4, 4.6).
 pub fn every_copy_waits_or_has_ended()
-    ensures balance { (limits : Limits) (ts : List Turn) (w : World) → IsNew w → IsCounted limits ts w
+    ensures balance { (limits : Capacity) (ts : List Turn) (w : World) → IsNew w → IsCounted limits ts w
         → (c : CopyId) → IsBalanced c limits ts w }
 {}
 
@@ -43,11 +43,11 @@ pub fn every_copy_waits_or_has_ended()
 /// one end with its cause, never both. One that stood there at the beginning never ends twice either (3.3.1.3,
 /// 3.3.4, 4.3, 4.4, 4.6).
 pub fn each_copy_enters_and_ends_once()
-    ensures enters { (limits : Limits) (ts : List Turn) (w : World) → IsNew w → IsCounted limits ts w
+    ensures enters { (limits : Capacity) (ts : List Turn) (w : World) → IsNew w → IsCounted limits ts w
         → TellsApart w.broker.records → (c : CopyId) → EntersOnce c limits ts w }
-    ensures ends { (limits : Limits) (ts : List Turn) (w : World) → IsNew w → IsCounted limits ts w
+    ensures ends { (limits : Capacity) (ts : List Turn) (w : World) → IsNew w → IsCounted limits ts w
         → TellsApart w.broker.records → (c : CopyId) → EndsOnce c limits ts w }
-    ensures either { (limits : Limits) (ts : List Turn) (w : World) → IsNew w → IsCounted limits ts w
+    ensures either { (limits : Capacity) (ts : List Turn) (w : World) → IsNew w → IsCounted limits ts w
         → TellsApart w.broker.records → (c : CopyId) → WaitsOrHasEnded c limits ts w }
 {}
 
@@ -55,8 +55,8 @@ pub fn each_copy_enters_and_ends_once()
 /// stood as it was accepted, with the members that the broker chose, in every run whatever; and in a run that
 /// spends no number publications are numbered one after the other, so that no two have one number (3.3.4, 4.8).
 pub fn every_publication_is_routed()
-    ensures routed { (limits : Limits) (ts : List Turn) (w : World) → AreRouted limits ts w }
-    ensures numbered { (limits : Limits) (ts : List Turn) (w : World) → IsNew w → IsCounted limits ts w
+    ensures routed { (limits : Capacity) (ts : List Turn) (w : World) → AreRouted limits ts w }
+    ensures numbered { (limits : Capacity) (ts : List Turn) (w : World) → IsNew w → IsCounted limits ts w
         → AreCountedOn limits ts w }
 {}
 
@@ -64,7 +64,7 @@ pub fn every_publication_is_routed()
 /// publication that is accepted those of its routing on the state on which it was accepted, and for each
 /// filter that is granted those of the retained messages it brings (3.3.1.3, 3.3.4, 3.8.4, 4.8).
 pub fn exactly_the_intended_copies_enter()
-    ensures entries { (limits : Limits) (ts : List Turn) (w : World) → IsNew w → IsCounted limits ts w
+    ensures entries { (limits : Capacity) (ts : List Turn) (w : World) → IsNew w → IsCounted limits ts w
         → IsEntered limits ts w }
 {}
 
@@ -73,7 +73,7 @@ pub fn exactly_the_intended_copies_enter()
 /// for a receiver's line is under way to it right after, behind what was; a stop after the commit keeps it back
 /// (3.1.2.11.4, 3.3.4, 4.3.1).
 pub fn copies_of_qos_0_go_out_at_once()
-    ensures outputs { (limits : Limits) (ts : List Turn) (w : World) → IsNew w → IsCounted limits ts w
+    ensures outputs { (limits : Capacity) (ts : List Turn) (w : World) → IsNew w → IsCounted limits ts w
         → AllGoOut limits ts w }
     ensures arrive { (set : Setting) (call : Call) (w : World) (client : List ℕ) → Arrives set call w client }
     ensures kept_back { (set : Setting) (a : Asking) (w : World) (client : List ℕ) → IsKeptBack set a w client }
@@ -84,10 +84,10 @@ pub fn copies_of_qos_0_go_out_at_once()
 /// in what was stored.
 pub fn a_world_may_begin()
     ensures empty { IsNew start }
-    ensures stored { (limits : Limits) (choice : MemberChoice) (now : ℕ) (r : Records)
+    ensures stored { (limits : Capacity) (choice : MemberChoice) (now : ℕ) (r : Records)
         → AreWithin limits → MayOpen limits choice now r → IsNew (opened_world limits choice now r) }
     ensures apart { TellsApart start.broker.records }
-    ensures stored_apart { (limits : Limits) (choice : MemberChoice) (now : ℕ) (r : Records)
+    ensures stored_apart { (limits : Capacity) (choice : MemberChoice) (now : ℕ) (r : Records)
         → AreWithin limits → MayOpen limits choice now r → TellsApart r
         → TellsApart (opened_world limits choice now r).broker.records }
 {}

@@ -1,6 +1,6 @@
 //! Laws of the ends of copies: why each came (3.1.2.4, 3.1.2.11, 3.3.2.3.3, 4.3).
 ghost use Rattle.std.specs.Prelude.{List};
-ghost use Rattle.mqtt_rules.specs.declared.step.Limits.{Limits};
+ghost use Rattle.mqtt_rules.specs.declared.step.Capacity.{Capacity};
 ghost use Rattle.mqtt_world_model.specs.model.Run.{Turn};
 ghost use Rattle.mqtt_world_model.specs.model.World.{World};
 ghost use Rattle.mqtt_world_laws.specs.acceptance.Fair.{IsCounted, IsNew};
@@ -14,7 +14,7 @@ ghost use Rattle.mqtt_world_laws.specs.causes.Endings.{AreAllEnds};
 /// takes. Its session ended, by its time or by Clean Start. Or it waited in a full queue, and made room for another
 /// (3.1.2.4, 3.1.2.11, 3.3.2.3.3, 4.3.2, 4.3.3).
 pub fn each_end_has_its_cause()
-    ensures causes { (limits : Limits) (ts : List Turn) (w : World) → IsNew w → IsCounted limits ts w
+    ensures causes { (limits : Capacity) (ts : List Turn) (w : World) → IsNew w → IsCounted limits ts w
         → EachHasItsCause limits ts w }
-    ensures all { (limits : Limits) (ts : List Turn) (w : World) → AreAllEnds limits ts w }
+    ensures all { (limits : Capacity) (ts : List Turn) (w : World) → AreAllEnds limits ts w }
 {}

@@ -9,7 +9,7 @@ ghost use Rattle.mqtt_rules.specs.step.Laws.{AreWithin};
 ghost use Rattle.mqtt_rules.specs.step.Lines.{HasUniqueLines};
 ghost use Rattle.mqtt_rules.specs.step.State.{Broker, MemberChoice};
 ghost use Rattle.mqtt_rules.specs.step.Step.{Call, opened, stepped};
-ghost use Rattle.mqtt_rules.specs.declared.step.Limits.{Limits};
+ghost use Rattle.mqtt_rules.specs.declared.step.Capacity.{Capacity};
 ghost use Rattle.mqtt_world_laws.specs.acceptance.Fair.{IsFair, IsNew, IsSteady};
 ghost use Rattle.mqtt_world_laws.specs.acceptance.Spending.{spending};
 
@@ -19,7 +19,7 @@ pub fn identifiers_in_flight_stay_unique()
     ensures event { (e : Event) (set : Setting) (w : World) → AreWithin set.limits → IsSteady w.broker
         → is_bad e w ≡ false → read_in spending set e w ≡ false → HasDistinctIdentifiers w.broker.records
         → HasDistinctIdentifiers (happens set e w).broker.records }
-    ensures runs { (limits : Limits) (ts : List Turn) (w : World) → IsNew w → IsFair limits ts w
+    ensures runs { (limits : Capacity) (ts : List Turn) (w : World) → IsNew w → IsFair limits ts w
         → HasDistinctIdentifiers w.broker.records → HasDistinctIdentifiers (run limits ts w).broker.records }
 {}
 
@@ -27,13 +27,13 @@ pub fn identifiers_in_flight_stay_unique()
 /// broker of which that holds (3.1, 3.1.4).
 pub fn a_line_without_session_has_sent_nothing()
     ensures empty { HaveSentNothing start.broker }
-    ensures step { (limits : Limits) (choice : MemberChoice) (now : ℕ) (call : Call) (b : Broker) → HasUniqueLines b
+    ensures step { (limits : Capacity) (choice : MemberChoice) (now : ℕ) (call : Call) (b : Broker) → HasUniqueLines b
         → HaveSentNothing b → HaveSentNothing (stepped limits choice now call b) }
-    ensures opening { (limits : Limits) (choice : MemberChoice) (now : ℕ) (r : Records)
+    ensures opening { (limits : Capacity) (choice : MemberChoice) (now : ℕ) (r : Records)
         → HaveSentNothing (opened limits choice now r) }
     ensures event { (e : Event) (set : Setting) (w : World) → AreWithin set.limits → IsSteady w.broker
         → is_bad e w ≡ false → read_in spending set e w ≡ false → HaveSentNothing w.broker
         → HaveSentNothing (happens set e w).broker }
-    ensures runs { (limits : Limits) (ts : List Turn) (w : World) → IsNew w → IsFair limits ts w
+    ensures runs { (limits : Capacity) (ts : List Turn) (w : World) → IsNew w → IsFair limits ts w
         → HaveSentNothing w.broker → HaveSentNothing (run limits ts w).broker }
 {}

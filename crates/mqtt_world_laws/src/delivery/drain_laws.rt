@@ -8,7 +8,7 @@ ghost use Rattle.mqtt_world_model.specs.model.Ends.{Receiver};
 ghost use Rattle.mqtt_world_model.specs.model.Run.{Turn, run};
 ghost use Rattle.mqtt_world_model.specs.model.World.{World, receiver_named};
 ghost use Rattle.mqtt_rules.specs.step.State.{MemberChoice};
-ghost use Rattle.mqtt_rules.specs.declared.step.Limits.{Limits};
+ghost use Rattle.mqtt_rules.specs.declared.step.Capacity.{Capacity};
 ghost use Rattle.mqtt_world_laws.specs.acceptance.Copies.{entered_from};
 ghost use Rattle.mqtt_world_laws.specs.acceptance.Fair.{IsFair};
 ghost use Rattle.mqtt_world_laws.specs.acceptance.Spending.{run_spends};
@@ -18,13 +18,13 @@ ghost use Rattle.mqtt_world_laws.specs.acceptance.Spending.{run_spends};
 /// Then its queue is empty, or the broker has closed its line, or it has none. Asked: that the first round spends no number
 /// (4.3, 4.4, 4.6, 4.9).
 pub fn a_drain_takes_its_copies()
-    ensures is_within { (limits : Limits) (ts : List Turn) (choice : MemberChoice) (client : List ℕ) (most : ℕ) (w : World)
+    ensures is_within { (limits : Capacity) (ts : List Turn) (choice : MemberChoice) (client : List ℕ) (most : ℕ) (w : World)
         → IsUntouched limits w → IsFair limits ts w
         → run_spends limits (round_turns limits choice client (run limits ts w)) (run limits ts w) ≡ false
         → rounds_taken limits choice client most (run limits ts w)
         ≤ enough_rounds (copies_left client (run limits ts w)
         + length (entered_from limits (round_turns limits choice client (run limits ts w)) (run limits ts w))) }
-    ensures is_over { (limits : Limits) (ts : List Turn) (choice : MemberChoice) (client : List ℕ) (most : ℕ) (w : World)
+    ensures is_over { (limits : Capacity) (ts : List Turn) (choice : MemberChoice) (client : List ℕ) (most : ℕ) (w : World)
         → IsUntouched limits w → IsFair limits ts w
         → run_spends limits (round_turns limits choice client (run limits ts w)) (run limits ts w) ≡ false
         → enough_rounds (copies_left client (run limits ts w)
@@ -40,14 +40,14 @@ pub fn a_drain_takes_its_copies()
 /// round, whatever was under way, the drain is over, or each copy that ends was taken, had expired or is too large (3.1.2.4,
 /// 3.1.2.11.4, 3.3.2.3.3, 4.3, 4.4, 4.6).
 pub fn copies_end_in_a_drain_by_a_cause()
-    ensures ends { (limits : Limits) (ts : List Turn) (choice : MemberChoice) (client : List ℕ) (most : ℕ) (w : World)
+    ensures ends { (limits : Capacity) (ts : List Turn) (choice : MemberChoice) (client : List ℕ) (most : ℕ) (w : World)
         → IsUntouched limits w → IsFair limits ts w
         → run_spends limits (round_turns limits choice client (run limits ts w)) (run limits ts w) ≡ false
         → (r : Receiver) → receiver_named client (run limits ts w) ≡ Some r → IsCalm r
         → is_over client (run limits ts w) ≡ false
         → EndSo client (EndsAs (course_of r.line.up) (moment_of (run limits ts w))) (run limits ts w)
         (drained limits choice client (suc most) (run limits ts w)) }
-    ensures later { (limits : Limits) (ts : List Turn) (choice : MemberChoice) (client : List ℕ) (most : ℕ) (w : World)
+    ensures later { (limits : Capacity) (ts : List Turn) (choice : MemberChoice) (client : List ℕ) (most : ℕ) (w : World)
         → IsUntouched limits w → IsFair limits ts w
         → run_spends limits (round_turns limits choice client (run limits ts w)) (run limits ts w) ≡ false
         → (is_over client (after_round limits choice client (run limits ts w)) ≡ true)

@@ -18,7 +18,7 @@ ghost use Rattle.mqtt_rules.specs.step.Flight.{HasDistinctIdentifiers};
 ghost use Rattle.mqtt_rules.specs.step.Laws.{AreWithin};
 ghost use Rattle.mqtt_rules.specs.step.State.{MemberChoice, session_named};
 ghost use Rattle.mqtt_rules.specs.step.Step.{is_opening_spent};
-ghost use Rattle.mqtt_rules.specs.declared.step.Limits.{Limits};
+ghost use Rattle.mqtt_rules.specs.declared.step.Capacity.{Capacity};
 ghost use Rattle.mqtt_rules.specs.spelling.Sending.{HaveSentPhases};
 ghost use Rattle.mqtt_world_laws.specs.acceptance.Copies.{entered_from};
 ghost use Rattle.mqtt_world_laws.specs.acceptance.Fair.{IsFair, MayOpen, opened_world};
@@ -30,30 +30,30 @@ ghost use Rattle.mqtt_world_laws.specs.acceptance.Spending.{run_spends};
 /// the run, those that it was handed by any later one stand in its ledger in the order of the queue; what it has read of them
 /// carries their topic and payload, and stays in the ledger, behind which alone more comes (4.3.2, 4.3.3, 4.4, 4.6).
 pub fn every_run_hands_over_once()
-    ensures once { (limits : Limits) (ts : List Turn) (w : World) → IsUntouched limits w → IsFair limits ts w
+    ensures once { (limits : Capacity) (ts : List Turn) (w : World) → IsUntouched limits w → IsFair limits ts w
         → (client : List ℕ) (r : Receiver) → receiver_named client (run limits ts w) ≡ Some r
         → (copy : CopyId) → handed_count copy r ≤ 1 }
-    ensures released { (limits : Limits) (ts : List Turn) (w : World) → IsUntouched limits w → IsFair limits ts w
+    ensures released { (limits : Capacity) (ts : List Turn) (w : World) → IsUntouched limits w → IsFair limits ts w
         → (client : List ℕ) (r : Receiver) → receiver_named client (run limits ts w) ≡ Some r
         → All (λ (copy : CopyId). handed_count copy r ≡ 1)
         (released_in (session_named r.client (run limits ts w).broker.records)) }
-    ensures for_good { (limits : Limits) (xs ys : List Turn) (w : World) → IsUntouched limits w
+    ensures for_good { (limits : Capacity) (xs ys : List Turn) (w : World) → IsUntouched limits w
         → IsFair limits (xs ++ ys) w → (client : List ℕ) (q r : Receiver)
         → receiver_named client (run limits xs w) ≡ Some q → receiver_named client (run limits (xs ++ ys) w) ≡ Some r
         → All (λ (copy : CopyId). handed_count copy r ≡ 1)
         (released_in (session_named q.client (run limits xs w).broker.records)) }
-    ensures in_order { (limits : Limits) (xs ys : List Turn) (w : World) → IsUntouched limits w
+    ensures in_order { (limits : Capacity) (xs ys : List Turn) (w : World) → IsUntouched limits w
         → IsFair limits (xs ++ ys) w → (client : List ℕ) (q r : Receiver)
         → receiver_named client (run limits xs w) ≡ Some q → receiver_named client (run limits (xs ++ ys) w) ≡ Some r
         → AreHandedInOrder (queued_by (session_named q.client (run limits xs w).broker.records)) r }
-    ensures carries { (limits : Limits) (ts : List Turn) (w : World) → IsUntouched limits w → IsFair limits ts w
+    ensures carries { (limits : Capacity) (ts : List Turn) (w : World) → IsUntouched limits w → IsFair limits ts w
         → (client : List ℕ) (r : Receiver) → receiver_named client (run limits ts w) ≡ Some r
         → CarryQueued (session_named r.client (run limits ts w).broker.records) r.ledger
         × CarryQueued (session_named r.client (run limits ts w).broker.records) r.once }
-    ensures grows { (limits : Limits) (ys : List Turn) (v : World) (client : List ℕ) (q r : Receiver)
+    ensures grows { (limits : Capacity) (ys : List Turn) (v : World) (client : List ℕ) (q r : Receiver)
         → receiver_named client v ≡ Some q → receiver_named client (run limits ys v) ≡ Some r
         → (more : List Entry) × (r.ledger ≡ q.ledger ++ more) }
-    ensures handed { (limits : Limits) (ts : List Turn) (w : World) → IsUntouched limits w → IsFair limits ts w
+    ensures handed { (limits : Capacity) (ts : List Turn) (w : World) → IsUntouched limits w → IsFair limits ts w
         → (client : List ℕ) (r : Receiver) → receiver_named client (run limits ts w) ≡ Some r
         → WasHandedOver r (run limits ts w).broker }
 {}
@@ -62,17 +62,17 @@ pub fn every_run_hands_over_once()
 /// no two retained messages are of one publication, what is stored is what packets can carry, and identifiers in flight have
 /// two bytes; such are those that any run of such a world leaves, under whatever limits. More sessions may stand than the limit, and queues may be longer, if they were stored under larger ones (4.1).
 pub fn a_world_may_begin_untouched()
-    ensures empty { (limits : Limits) → AreWithin limits → IsUntouched limits start }
-    ensures stored { (limits : Limits) (choice : MemberChoice) (now : ℕ) (r : Records)
+    ensures empty { (limits : Capacity) → AreWithin limits → IsUntouched limits start }
+    ensures stored { (limits : Capacity) (choice : MemberChoice) (now : ℕ) (r : Records)
         → AreWithin limits → MayOpen limits choice now r → HasDistinctIdentifiers r → AreRetainedOnce r
         → HasLawfulContents r → HaveSentPhases r → IsUntouched limits (opened_world limits choice now r) }
-    ensures again { (limits : Limits) (ts : List Turn) (choice : MemberChoice) (now : ℕ) (w : World)
+    ensures again { (limits : Capacity) (ts : List Turn) (choice : MemberChoice) (now : ℕ) (w : World)
         → IsUntouched limits w → IsFair limits ts w
         → is_opening_spent limits choice now (run limits ts w).broker.records ≡ false
         → IsUntouched limits (opened_world limits choice now (run limits ts w).broker.records) }
 
     // Also if the broker is opened under other limits than those of the run.
-    ensures under_others { (limits others : Limits) (ts : List Turn) (choice : MemberChoice) (now : ℕ) (w : World)
+    ensures under_others { (limits others : Capacity) (ts : List Turn) (choice : MemberChoice) (now : ℕ) (w : World)
         → IsUntouched limits w → IsFair limits ts w → AreWithin others
         → is_opening_spent others choice now (run limits ts w).broker.records ≡ false
         → IsUntouched others (opened_world others choice now (run limits ts w).broker.records) }
@@ -83,12 +83,12 @@ pub fn a_world_may_begin_untouched()
 /// and one of rounds are enough. Then the queue is empty, or the broker has closed the receiver's line, or it has none. Asked:
 /// that the first round spends no number (4.3, 4.4, 4.6, 4.9).
 pub fn every_drain_ends()
-    ensures is_within { (limits : Limits) (ts : List Turn) (choice : MemberChoice) (client : List ℕ) (most : ℕ) (w : World)
+    ensures is_within { (limits : Capacity) (ts : List Turn) (choice : MemberChoice) (client : List ℕ) (most : ℕ) (w : World)
         → IsUntouched limits w → IsFair limits ts w
         → run_spends limits (round_turns limits choice client (run limits ts w)) (run limits ts w) ≡ false
         → rounds_taken limits choice client most (run limits ts w)
         ≤ enough_rounds (copies_left client (after_round limits choice client (run limits ts w))) }
-    ensures is_over { (limits : Limits) (ts : List Turn) (choice : MemberChoice) (client : List ℕ) (most : ℕ) (w : World)
+    ensures is_over { (limits : Capacity) (ts : List Turn) (choice : MemberChoice) (client : List ℕ) (most : ℕ) (w : World)
         → IsUntouched limits w → IsFair limits ts w
         → run_spends limits (round_turns limits choice client (run limits ts w)) (run limits ts w) ≡ false
         → enough_rounds (copies_left client (after_round limits choice client (run limits ts w))) ≤ most
@@ -99,11 +99,11 @@ pub fn every_drain_ends()
 /// whether it stops after the commit of that step or not, whatever copy of QoS 1 ends as taken in it was read by the
 /// receiver, at least once (4.3.2).
 pub fn what_is_acknowledged_was_read()
-    ensures reads { (limits : Limits) (ts : List Turn) (choice : MemberChoice) (w : World) → IsUntouched limits w
+    ensures reads { (limits : Capacity) (ts : List Turn) (choice : MemberChoice) (w : World) → IsUntouched limits w
         → IsFair limits ts w → (client : List ℕ) (i code : ℕ) (rest : List Back) (r : Receiver)
         → receiver_named client (run limits ts w) ≡ Some r → r.line.up ≡ answers (puback i code) ∷ rest
         → AreRead r (record { limits = limits; choice = choice }) (to_broker client) (run limits ts w) }
-    ensures reads_old { (limits : Limits) (ts : List Turn) (choice : MemberChoice) (w : World) → IsUntouched limits w
+    ensures reads_old { (limits : Capacity) (ts : List Turn) (choice : MemberChoice) (w : World) → IsUntouched limits w
         → IsFair limits ts w → (client : List ℕ) (i code : ℕ) (rest : List Back) (r : Receiver)
         → receiver_named client (run limits ts w) ≡ Some r → r.line.old ≡ answers (puback i code) ∷ rest
         → AreRead r (record { limits = limits; choice = choice }) (old_to_broker client) (run limits ts w) }
@@ -115,21 +115,21 @@ pub fn what_is_acknowledged_was_read()
 /// there at that moment; none does when the receiver comes, if no session of its name stands. So the whole ledger of each receiver is in the order in which the
 /// copies entered over the run (4.3.3, 4.6).
 pub fn copies_are_handed_over_as_they_entered()
-    ensures as_come { (limits : Limits) (xs ys : List Turn) (w : World) → IsUntouched limits w
+    ensures as_come { (limits : Capacity) (xs ys : List Turn) (w : World) → IsUntouched limits w
         → IsFair limits (xs ++ ys) w → (client : List ℕ) (q r : Receiver)
         → receiver_named client (run limits xs w) ≡ Some q → receiver_named client (run limits (xs ++ ys) w) ≡ Some r
         → AreHandedInOrder (come_over client limits ys (run limits xs w)) r }
-    ensures come { (limits : Limits) (xs ys : List Turn) (w : World) → IsUntouched limits w
+    ensures come { (limits : Capacity) (xs ys : List Turn) (w : World) → IsUntouched limits w
         → IsFair limits (xs ++ ys) w → (client : List ℕ) (q : Receiver) → receiver_named client (run limits xs w) ≡ Some q
         → stand_among (come_over client limits ys (run limits xs w))
         (queue_at client (run limits xs w) ++ entered_from limits ys (run limits xs w)) ≡ true }
-    ensures as_entered { (limits : Limits) (xs ys : List Turn) (w : World) → IsUntouched limits w
+    ensures as_entered { (limits : Capacity) (xs ys : List Turn) (w : World) → IsUntouched limits w
         → IsFair limits (xs ++ ys) w → (client : List ℕ) (q r : Receiver)
         → receiver_named client (run limits xs w) ≡ Some q → receiver_named client (run limits (xs ++ ys) w) ≡ Some r
         → stand_among (filter (is_among (come_over client limits ys (run limits xs w))) (copies_in r.ledger))
         (queue_at client (run limits xs w) ++ entered_from limits ys (run limits xs w)) ≡ true }
     // From when it has read nothing and is told of nothing, as when it comes, its whole ledger is in the order of entering.
-    ensures whole { (limits : Limits) (xs ys : List Turn) (w : World) → IsUntouched limits w
+    ensures whole { (limits : Capacity) (xs ys : List Turn) (w : World) → IsUntouched limits w
         → IsFair limits (xs ++ ys) w → (client : List ℕ) (q r : Receiver)
         → receiver_named client (run limits xs w) ≡ Some q → receiver_named client (run limits (xs ++ ys) w) ≡ Some r
         → q.ledger ≡ [] → q.line.down ≡ []
@@ -137,7 +137,7 @@ pub fn copies_are_handed_over_as_they_entered()
     ensures first { (client : List ℕ) (window aliases : ℕ) (set : Setting) (w : World) → is_bad (receiver client window aliases) w ≡ false
         → begins_clean (receiver client window aliases) w ≡ true → queue_at client (happens set (receiver client window aliases) w) ≡ [] }
     // So it is of every receiver, over the whole run.
-    ensures all { (limits : Limits) (ts : List Turn) (w : World) → IsUntouched limits w → IsFair limits ts w
+    ensures all { (limits : Capacity) (ts : List Turn) (w : World) → IsUntouched limits w → IsFair limits ts w
         → (client : List ℕ) (r : Receiver) → receiver_named client (run limits ts w) ≡ Some r
         → stand_among (copies_in r.ledger) (entered_from limits ts w) ≡ true }
 {}

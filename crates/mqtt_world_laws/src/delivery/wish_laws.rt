@@ -7,7 +7,7 @@ ghost use Rattle.mqtt_world_model.specs.model.Ends.{Back, Receiver, Wish, asks_f
 ghost use Rattle.mqtt_world_model.specs.model.Run.{Turn, read_at, read_first, setting, turned};
 ghost use Rattle.mqtt_world_model.specs.model.World.{Setting, World, asks, old_to_broker, receiver_named, to_broker};
 ghost use Rattle.mqtt_rules.specs.step.Laws.{AreWithin};
-ghost use Rattle.mqtt_rules.specs.declared.step.Limits.{Limits};
+ghost use Rattle.mqtt_rules.specs.declared.step.Capacity.{Capacity};
 ghost use Rattle.mqtt_world_laws.specs.acceptance.Fair.{IsSteady};
 ghost use Rattle.mqtt_world_laws.specs.acceptance.Spending.{spending};
 
@@ -30,7 +30,7 @@ pub fn a_subscribe_leaves_a_receiver_standing()
 /// Whatever happens in the world, no two retained messages are of one publication, if so it was before: each publication
 /// is retained in one place at most (3.3.1.3).
 pub fn retained_messages_stay_of_different_publications()
-    ensures turns { (limits : Limits) (t : Turn) (w : World) → AreWithin limits → IsSteady w.broker
+    ensures turns { (limits : Capacity) (t : Turn) (w : World) → AreWithin limits → IsSteady w.broker
         → read_at spending (setting limits t) t.event w ≡ false → AreRetainedOnce w.broker.records
         → AreRetainedOnce (turned limits t w).broker.records }
 {}

@@ -7,7 +7,7 @@ ghost use Rattle.mqtt_world_laws.specs.receiver.Drains.{Doing, all_turns, drain_
 ghost use Rattle.mqtt_world_model.specs.model.Run.{Turn, run};
 ghost use Rattle.mqtt_world_model.specs.model.World.{World, start};
 ghost use Rattle.mqtt_rules.specs.step.State.{MemberChoice};
-ghost use Rattle.mqtt_rules.specs.declared.step.Limits.{Limits};
+ghost use Rattle.mqtt_rules.specs.declared.step.Capacity.{Capacity};
 ghost use Rattle.mqtt_world_laws.specs.acceptance.Fair.{IsFair};
 ghost use Rattle.mqtt_world_laws.specs.acceptance.Spending.{run_spends};
 
@@ -17,13 +17,13 @@ ghost use Rattle.mqtt_world_laws.specs.acceptance.Spending.{run_spends};
 /// SUBSCRIBE is; and it ends for its cause. None is refused. So it is of each drain of a script (3.1.2.4, 3.1.2.11,
 /// 3.3.2.3.3, 4.3).
 pub fn copies_of_a_drain_end_by_its_causes()
-    ensures ends { (limits : Limits) (ts : List Turn) (choice : MemberChoice) (client : List ℕ) (most : ℕ) (w : World)
+    ensures ends { (limits : Capacity) (ts : List Turn) (choice : MemberChoice) (client : List ℕ) (most : ℕ) (w : World)
         → IsUntouched limits w → IsFair limits ts w
         → run_spends limits (drain_turns limits choice client most (run limits ts w)) (run limits ts w) ≡ false
         → EndOfDrain limits choice client most (run limits ts w) }
-    ensures of_scripts { (limits : Limits) (ds : List Doing) (w : World) → IsUntouched limits w
+    ensures of_scripts { (limits : Capacity) (ds : List Doing) (w : World) → IsUntouched limits w
         → IsFair limits (all_turns limits ds w) w → AllDrainsEndSo limits ds w }
-    ensures from_nothing { (limits : Limits) (ds : List Doing) → IsFair limits (all_turns limits ds start) start
+    ensures from_nothing { (limits : Capacity) (ds : List Doing) → IsFair limits (all_turns limits ds start) start
         → AllDrainsEndSo limits ds start }
 {}
 
@@ -32,12 +32,12 @@ pub fn copies_of_a_drain_end_by_its_causes()
 /// the beginning is what packets can carry, and so it is with what the broker reads. So it is in all drains of a fair script
 /// (2.1.4, 3.1.2.11.4).
 pub fn no_copy_is_too_large_in_a_drain()
-    ensures ends { (limits : Limits) (ts : List Turn) (choice : MemberChoice) (client : List ℕ) (most : ℕ) (w : World)
+    ensures ends { (limits : Capacity) (ts : List Turn) (choice : MemberChoice) (client : List ℕ) (most : ℕ) (w : World)
         → IsUntouched limits w → IsFair limits ts w
         → run_spends limits (drain_turns limits choice client most (run limits ts w)) (run limits ts w) ≡ false
         → NoneTooLarge limits (drain_turns limits choice client most (run limits ts w)) (run limits ts w) }
-    ensures of_scripts { (limits : Limits) (ds : List Doing) (w : World) → IsUntouched limits w
+    ensures of_scripts { (limits : Capacity) (ds : List Doing) (w : World) → IsUntouched limits w
         → IsFair limits (all_turns limits ds w) w → AllDrainsFit limits ds w }
-    ensures from_nothing { (limits : Limits) (ds : List Doing) → IsFair limits (all_turns limits ds start) start
+    ensures from_nothing { (limits : Capacity) (ds : List Doing) → IsFair limits (all_turns limits ds start) start
         → AllDrainsFit limits ds start }
 {}

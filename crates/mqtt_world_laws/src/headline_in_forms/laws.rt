@@ -1,7 +1,7 @@
 //! The law of exactly-once delivery, of runs in which PUBLISH goes out in forms (3.3.2.3.4, 3.3.4, 4.3, 4.4, 4.6, 4.8, 4.9).
 ghost use Rattle.std.specs.Prelude.{List};
 ghost use Rattle.mqtt_rules.specs.step.Laws.{AreWithin};
-ghost use Rattle.mqtt_rules.specs.declared.step.Limits.{Limits};
+ghost use Rattle.mqtt_rules.specs.declared.step.Capacity.{Capacity};
 ghost use Rattle.mqtt_world_model.specs.model.World.{start};
 ghost use Rattle.mqtt_world_laws.specs.receiver.Drains.{Doing};
 ghost use Rattle.mqtt_world_laws.specs.headline.Lives.{AreFairLives, BrokerLife, IsFairScript, after_lives};
@@ -15,14 +15,14 @@ ghost use Rattle.mqtt_world_laws.specs.headline_in_forms.Reading.{begun};
 /// what packets mean; and each PUBLISH that is read means a topic. Asked is what is asked there: each script is fair, and
 /// opening spends no number (3.1.2.11.5, 3.3.2.3.4, 3.3.4, 4.3, 4.4, 4.6, 4.8, 4.9).
 pub fn messages_in_forms_are_delivered_exactly_once()
-    ensures delivers { (most : Most) (limits : Limits) (lives : List BrokerLife) (ds : List Doing) → AreWithin limits
+    ensures delivers { (most : Most) (limits : Capacity) (lives : List BrokerLife) (ds : List Doing) → AreWithin limits
         → AreFairLives limits lives → IsFairScript limits ds (after_lives limits lives)
         → DoingsDeliver most limits ds (begun (after_lives limits lives)) }
-    ensures fits { (most : Most) (limits : Limits) (lives : List BrokerLife) (ds : List Doing) → AreWithin limits
+    ensures fits { (most : Most) (limits : Capacity) (lives : List BrokerLife) (ds : List Doing) → AreWithin limits
         → AreFairLives limits lives → IsFairScript limits ds (after_lives limits lives)
         → AllDrainsFit most limits ds (begun (after_lives limits lives)) }
 
     // From nothing stored.
-    ensures from_nothing { (most : Most) (limits : Limits) (ds : List Doing) → IsFairScript limits ds start
+    ensures from_nothing { (most : Most) (limits : Capacity) (ds : List Doing) → IsFairScript limits ds start
         → DoingsDeliver most limits ds start_as_sent }
 {}

@@ -4,7 +4,7 @@ ghost use Rattle.mqtt_packet.specs.declared.codec.packet.Packet.{Packet};
 ghost use Rattle.mqtt_records.specs.declared.state.records.Records.{Records};
 ghost use Rattle.mqtt_rules.specs.step.State.{MemberChoice};
 ghost use Rattle.mqtt_rules.specs.step.Step.{Call, told};
-ghost use Rattle.mqtt_rules.specs.declared.step.Limits.{Limits};
+ghost use Rattle.mqtt_rules.specs.declared.step.Capacity.{Capacity};
 ghost use Rattle.mqtt_rules.specs.granting.Naming.{EndsWithUsers, StoresNamed};
 ghost use Rattle.mqtt_rules.specs.telling.Meaning.{HasItsTopic, Means};
 ghost use Rattle.mqtt_topic.specs.names.Aliases.{AliasTable};
@@ -24,11 +24,11 @@ pub fn what_means_a_packet_is_read_as_it()
 /// run from an opening on what names its topics, with lost lines, restarts and stops. And whatever is asked of the broker
 /// brings no CONNECT on the line of an end that takes more than that end: each has lines of its own (3.1.2.11.5).
 pub fn ends_know_what_they_were_told()
-    ensures opened { (limits : Limits) (choice : MemberChoice) (now : ℕ) (r : Records) → StoresNamed r
+    ensures opened { (limits : Capacity) (choice : MemberChoice) (now : ℕ) (r : Records) → StoresNamed r
         → HasKnowingEnds (opened_world limits choice now r) }
     ensures happens { (set : Setting) (e : Event) (w : World) → is_bad e w ≡ false → HasKnowingEnds w
         → HasKnowingEnds (happens set e w) }
-    ensures run { (limits : Limits) (ts : List Turn) (w : World) → HasKnowingEnds w
+    ensures run { (limits : Capacity) (ts : List Turn) (w : World) → HasKnowingEnds w
         → HasKnowingEnds (run limits ts w) }
     ensures asked { (set : Setting) (a : Asking) (call : Call) (w : World) → HasKnowingEnds w
         → call_of set a w ≡ Some call → TakesAsEnds call (before set a w) }

@@ -3,7 +3,7 @@ ghost use Rattle.std.specs.Prelude.{◌≡◌, ℕ, List, false};
 ghost use Rattle.std.specs.List.{AllByRecursion};
 ghost use Rattle.mqtt_base.specs.declared.session.CopyId.{CopyId};
 ghost use Rattle.mqtt_records.specs.declared.state.records.Records.{Records};
-ghost use Rattle.mqtt_rules.specs.declared.step.Limits.{Limits};
+ghost use Rattle.mqtt_rules.specs.declared.step.Capacity.{Capacity};
 ghost use Rattle.mqtt_rules.specs.step.Laws.{AreWithin, Event, after_events, blank};
 ghost use Rattle.mqtt_rules.specs.step.State.{Broker, MemberChoice, stored};
 ghost use Rattle.mqtt_rules.specs.step.Step.{Call, is_opening_spent, opened};
@@ -37,14 +37,14 @@ pub fn what_calls_leave_may_be_opened()
     ensures begins { BeginsInOrder blank }
     ensures goes_on { (events : List Event) (b : Broker) → BeginsInOrder b → SpendNone events b
         → BeginsInOrder (after_events events b) }
-    ensures opens { (limits : Limits) (choice : MemberChoice) (now : ℕ) (r : Records) → IsLeftByCalls r → AreWithin limits
+    ensures opens { (limits : Capacity) (choice : MemberChoice) (now : ℕ) (r : Records) → IsLeftByCalls r → AreWithin limits
         → is_opening_spent limits choice now r ≡ false → BeginsInOrder (opened limits choice now r) }
-    ensures leaves { (limits : Limits) (choice : MemberChoice) (now : ℕ) (r : Records) (events : List Event) → IsLeftByCalls r
+    ensures leaves { (limits : Capacity) (choice : MemberChoice) (now : ℕ) (r : Records) (events : List Event) → IsLeftByCalls r
         → AreWithin limits → is_opening_spent limits choice now r ≡ false → SpendNone events (opened limits choice now r)
         → IsLeftByCalls (stored (after_events events (opened limits choice now r))) }
 
     // A moment may come alone.
-    ensures waits { (limits : Limits) (choice : MemberChoice) (now : ℕ) (b : Broker) → BeginsInOrder b
+    ensures waits { (limits : Capacity) (choice : MemberChoice) (now : ℕ) (b : Broker) → BeginsInOrder b
         → (call : Call) × IsMomentAlone limits choice now call b }
 {}
 

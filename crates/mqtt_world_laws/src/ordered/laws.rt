@@ -1,6 +1,6 @@
 //! The law of order, from a publisher to each receiver (4.6).
 ghost use Rattle.std.specs.Prelude.{List};
-ghost use Rattle.mqtt_rules.specs.declared.step.Limits.{Limits};
+ghost use Rattle.mqtt_rules.specs.declared.step.Capacity.{Capacity};
 ghost use Rattle.mqtt_rules.specs.step.Laws.{AreWithin};
 ghost use Rattle.mqtt_world_model.specs.model.Run.{Turn};
 ghost use Rattle.mqtt_world_model.specs.model.World.{World};
@@ -21,11 +21,11 @@ ghost use Rattle.mqtt_world_laws.specs.ordered.Ordered.{AreInOrder};
 /// them. So of two messages of one publisher no receiver is handed the later one before the earlier one (4.6). The earlier one
 /// has QoS 2, and the broker never refused it; what a SUBSCRIBE brings of it as a retained message doesn't count.
 pub fn what_is_published_first_is_received_first()
-    ensures run { (limits : Limits) (ts : List Turn) (w : World) → BeginsWell limits w → IsFair limits ts w
+    ensures run { (limits : Capacity) (ts : List Turn) (w : World) → BeginsWell limits w → IsFair limits ts w
         → AreInOrder limits ts w }
 
     // Over every fair script of events and drains, after any lives of the broker.
-    ensures lives { (limits : Limits) (lives : List BrokerLife) (ds : List Doing) → AreWithin limits
+    ensures lives { (limits : Capacity) (lives : List BrokerLife) (ds : List Doing) → AreWithin limits
         → AreFairLives limits lives → IsFairScript limits ds (after_lives limits lives)
         → AreInOrder limits (all_turns limits ds (after_lives limits lives)) (after_lives limits lives) }
 {}
@@ -36,11 +36,11 @@ pub fn what_is_published_first_is_received_first()
 /// were accepted, whoever sent them, so none of its copies is first read behind one of the later message. And each copy of
 /// QoS 1, also of a retained message, is first read in the order in which the copies entered (4.6).
 pub fn what_is_published_first_is_read_first()
-    ensures run { (limits : Limits) (ts : List Turn) (w : World) → BeginsWell limits w → IsFair limits ts w
+    ensures run { (limits : Capacity) (ts : List Turn) (w : World) → BeginsWell limits w → IsFair limits ts w
         → AreReadInOrder limits ts w }
 
     // Over every fair script of events and drains, after any lives of the broker.
-    ensures lives { (limits : Limits) (lives : List BrokerLife) (ds : List Doing) → AreWithin limits
+    ensures lives { (limits : Capacity) (lives : List BrokerLife) (ds : List Doing) → AreWithin limits
         → AreFairLives limits lives → IsFairScript limits ds (after_lives limits lives)
         → AreReadInOrder limits (all_turns limits ds (after_lives limits lives)) (after_lives limits lives) }
 {}

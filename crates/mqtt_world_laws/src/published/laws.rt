@@ -1,6 +1,6 @@
 //! The law of messages from their publisher to each receiver (3.3.4, 3.8.4, 4.3, 4.4).
 ghost use Rattle.std.specs.Prelude.{◌++◌, ◌≡◌, ℕ, List, false};
-ghost use Rattle.mqtt_rules.specs.declared.step.Limits.{Limits};
+ghost use Rattle.mqtt_rules.specs.declared.step.Capacity.{Capacity};
 ghost use Rattle.mqtt_rules.specs.step.Laws.{AreWithin};
 ghost use Rattle.mqtt_rules.specs.step.State.{MemberChoice};
 ghost use Rattle.mqtt_world_model.specs.model.Run.{Turn, run};
@@ -24,16 +24,16 @@ ghost use Rattle.mqtt_world_laws.specs.published.Published.{ArePassedOn, HasRece
 /// has QoS 1; as expired or dropped, and then it never was; or for another cause, which its end has. No receiver was handed it
 /// twice, and what it has read of it carries the message's topic and payload (3.3.4, 3.8.4, 4.3, 4.4).
 pub fn what_is_published_is_received()
-    ensures run { (limits : Limits) (ts : List Turn) (w : World) → BeginsWell limits w → IsFair limits ts w
+    ensures run { (limits : Capacity) (ts : List Turn) (w : World) → BeginsWell limits w → IsFair limits ts w
         → ArePassedOn limits ts w }
 
     // Over every fair script of events and drains, after any lives of the broker.
-    ensures lives { (limits : Limits) (lives : List BrokerLife) (ds : List Doing) → AreWithin limits
+    ensures lives { (limits : Capacity) (lives : List BrokerLife) (ds : List Doing) → AreWithin limits
         → AreFairLives limits lives → IsFairScript limits ds (after_lives limits lives)
         → ArePassedOn limits (all_turns limits ds (after_lives limits lives)) (after_lives limits lives) }
 
     // After a drain that is not bad, with rounds enough, none waits.
-    ensures drained { (limits : Limits) (ts : List Turn) (choice : MemberChoice) (reader : List ℕ) (most : ℕ) (w : World)
+    ensures drained { (limits : Capacity) (ts : List Turn) (choice : MemberChoice) (reader : List ℕ) (most : ℕ) (w : World)
         → BeginsWell limits w → IsFair limits (ts ++ drain_turns limits choice reader most (run limits ts w)) w
         → is_bad_drain reader (run limits ts w) ≡ false → HasEnough limits choice reader most (run limits ts w)
         → HasReceivedAll reader limits (ts ++ drain_turns limits choice reader most (run limits ts w)) w }

@@ -16,7 +16,7 @@ ghost use Rattle.mqtt_records.specs.lists.Distinct.{AllDiffer};
 ghost use Rattle.mqtt_rules.specs.step.Numbers.{HasAcceptedNumbers, NoneFell};
 ghost use Rattle.mqtt_rules.specs.step.State.{Broker, Line, MemberChoice};
 ghost use Rattle.mqtt_rules.specs.step.Step.{Input, stepped};
-ghost use Rattle.mqtt_rules.specs.declared.step.Limits.{Limits};
+ghost use Rattle.mqtt_rules.specs.declared.step.Capacity.{Capacity};
 
 /// A receiver's copies stay told apart, each from every other, whatever enters behind them: copies of publications that were
 /// accepted meanwhile, or those of retained messages that a filter brings, on the receiver's line or on the one that it gave
@@ -26,7 +26,7 @@ pub fn copies_that_enter_are_told_apart()
     ensures enter { (birth : ℕ) (ids more : List CopyId) (old new : Records) → AreToldApart ids old → NoneFell old new
         → AllByRecursion (IsNewCopy birth old.publications new.publications) more → AllDiffer more
         → AreToldApart (ids ++ more) new }
-    ensures subscribes { (largest : ℕ) (ids : List CopyId) (limits : Limits) (choice : MemberChoice) (now birth : ℕ)
+    ensures subscribes { (largest : ℕ) (ids : List CopyId) (limits : Capacity) (choice : MemberChoice) (now birth : ℕ)
         → (ns : List ℕ) (w : Wish) (rest : List Back) (r : Receiver) (l : Line) (s : Session) (b : Broker)
         → IsInStep largest ids birth ns r b → IsListening r l s b → IsTidy limits b → r.line.up ≡ asks_for w ∷ rest
         → AreToldApart ids b.records
@@ -36,7 +36,7 @@ pub fn copies_that_enter_are_told_apart()
         (stepped limits choice now (Input l.number (wire_back r.client r.window r.aliases (asks_for w))) b))
         × AreToldApart (ids ++ x.more)
         (stepped limits choice now (Input l.number (wire_back r.client r.window r.aliases (asks_for w))) b).records }
-    ensures old_subscribes { (largest : ℕ) (ids : List CopyId) (limits : Limits) (choice : MemberChoice) (now birth : ℕ)
+    ensures old_subscribes { (largest : ℕ) (ids : List CopyId) (limits : Capacity) (choice : MemberChoice) (now birth : ℕ)
         → (ns : List ℕ) (w : Wish) (rest : List Back) (r : Receiver) (l : Line) (s : Session) (b : Broker)
         → IsInStep largest ids birth ns r b → IsLingering r l s b → IsTidy limits b → r.line.old ≡ asks_for w ∷ rest
         → AreToldApart ids b.records

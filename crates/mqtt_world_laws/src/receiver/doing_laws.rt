@@ -10,7 +10,7 @@ ghost use Rattle.mqtt_world_model.specs.model.Seen.{is_linked};
 ghost use Rattle.mqtt_world_model.specs.model.World.{asks_wish};
 ghost use Rattle.mqtt_rules.specs.step.State.{Broker, MemberChoice, session_named};
 ghost use Rattle.mqtt_rules.specs.step.Step.{NewLine, stepped};
-ghost use Rattle.mqtt_rules.specs.declared.step.Limits.{Limits};
+ghost use Rattle.mqtt_rules.specs.declared.step.Capacity.{Capacity};
 
 /// A receiver that is in step with the broker stays so whatever it does or reads: it reads the first packet under way
 /// to it, gives its line up, asks for a subscription, or joins by a new line, whose number is one more of its own
@@ -24,9 +24,9 @@ pub fn own_doings_leave_a_receiver_in_step()
         → IsInStep largest ids birth ns (record r { line = gives_up r.line.link r.line }) b }
     ensures asks { (largest : ℕ) (ids : List CopyId) (birth : ℕ) (ns : List ℕ) (t : Bool) (w : Wish) (r : Receiver)
         → (b : Broker) → IsInStep largest ids birth ns r b → IsInStep largest ids birth ns (asks_wish t w r) b }
-    ensures joins { (largest : ℕ) (ids : List CopyId) (birth : ℕ) (ns : List ℕ) (limits : Limits)
+    ensures joins { (largest : ℕ) (ids : List CopyId) (birth : ℕ) (ns : List ℕ) (limits : Capacity)
         → (choice : MemberChoice) (now : ℕ) (clean : Bool) (r : Receiver) (b : Broker)
-        → IsInStep largest ids birth ns r b → MayComeBack clean r b
+        → IsInStep largest ids birth ns r b → MayComeBack limits clean r b
         → IsInStep largest ids birth (suc b.given ∷ ns) (receiver_joined limits choice now clean r b)
         (stepped limits choice now NewLine b) }
 {}
@@ -44,9 +44,9 @@ pub fn own_doings_leave_a_receiver_awaiting()
         → IsAwaiting largest ids ns (record r { line = gives_up r.line.link r.line }) b }
     ensures asks { (largest : ℕ) (ids : List CopyId) (ns : List ℕ) (t : Bool) (w : Wish) (r : Receiver) (b : Broker)
         → IsAwaiting largest ids ns r b → IsAwaiting largest ids ns (asks_wish t w r) b }
-    ensures joins { (largest : ℕ) (ids : List CopyId) (ns : List ℕ) (limits : Limits) (choice : MemberChoice)
+    ensures joins { (largest : ℕ) (ids : List CopyId) (ns : List ℕ) (limits : Capacity) (choice : MemberChoice)
         → (now : ℕ) (clean : Bool) (r : Receiver) (b : Broker)
-        → IsAwaiting largest ids ns r b → MayComeBack clean r b
+        → IsAwaiting largest ids ns r b → MayComeBack limits clean r b
         → IsAwaiting largest ids (suc b.given ∷ ns) (receiver_joined limits choice now clean r b)
         (stepped limits choice now NewLine b) }
 {}

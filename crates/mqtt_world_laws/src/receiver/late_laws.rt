@@ -18,19 +18,19 @@ ghost use Rattle.mqtt_records.specs.state.Session.{auto};
 ghost use Rattle.mqtt_records.specs.declared.state.session.Session.{Session};
 ghost use Rattle.mqtt_rules.specs.step.State.{Broker, Line, MemberChoice, line_at, line_of, session_named};
 ghost use Rattle.mqtt_rules.specs.step.Step.{Call, Input, Lost, Pump, Tick, at_moment, stepped};
-ghost use Rattle.mqtt_rules.specs.declared.step.Limits.{Limits};
+ghost use Rattle.mqtt_rules.specs.declared.step.Capacity.{Capacity};
 
 /// A call of the broker that is made for others, while no session of a receiver's name stands, leaves the receiver awaiting
 /// its session, with the same copies and lines, and no session of its name; and so does a tick that closes a line on which
 /// its CONNECT didn't come in time (3.1, 3.1.4, 4.1).
 pub fn calls_of_others_leave_a_receiver_awaiting()
-    ensures others { (largest : ℕ) (ids : List CopyId) (limits : Limits) (choice : MemberChoice) (now : ℕ) (call : Call)
+    ensures others { (largest : ℕ) (ids : List CopyId) (limits : Capacity) (choice : MemberChoice) (now : ℕ) (call : Call)
         → (ns : List ℕ) (r : Receiver) (b : Broker)
         → IsAwaiting largest ids ns r b → session_named r.client b.records ≡ None
         → starts_with nat_eq r.client auto ≡ false → IsCallOfOthers r.client ns call (at_moment now b)
         → IsAwaiting largest ids ns (receiver_called limits choice now call r b) (stepped limits choice now call b)
         × (session_named r.client (stepped limits choice now call b).records ≡ None) }
-    ensures closes { (largest : ℕ) (ids : List CopyId) (limits : Limits) (choice : MemberChoice) (now : ℕ) (ns : List ℕ)
+    ensures closes { (largest : ℕ) (ids : List CopyId) (limits : Capacity) (choice : MemberChoice) (now : ℕ) (ns : List ℕ)
         → (n : ℕ) (r : Receiver) (b : Broker)
         → IsAwaiting largest ids ns r b → session_named r.client b.records ≡ None → IsOverdue n (at_moment now b)
         → IsAwaiting largest ids ns (receiver_called limits choice now Tick r b) (stepped limits choice now Tick b)
@@ -42,12 +42,12 @@ pub fn calls_of_others_leave_a_receiver_awaiting()
 /// birth is the next one, and the copies and lines are the same. If there is no place for a session, that line closes, and
 /// the receiver awaits one as before (3.1.2.4, 3.1.4, 3.2.2.2).
 pub fn a_connect_on_the_line_given_up_puts_a_receiver_in_step()
-    ensures resumes { (largest : ℕ) (ids : List CopyId) (birth : ℕ) (ns : List ℕ) (limits : Limits)
+    ensures resumes { (largest : ℕ) (ids : List CopyId) (birth : ℕ) (ns : List ℕ) (limits : Capacity)
         → (choice : MemberChoice) (now : ℕ) (rest : List Back) (r : Receiver) (l : Line) (s : Session) (b : Broker)
         → IsInStep largest ids birth ns r b → IsLate r l s b → r.line.old ≡ answers (connect false) ∷ rest
         → IsInStep largest ids birth ns (reads_old_answer limits choice now l.number (connect false) r b)
         (after_answer limits choice now l.number (connect false) r b) }
-    ensures begins { (largest : ℕ) (ids : List CopyId) (ns : List ℕ) (limits : Limits) (choice : MemberChoice) (now : ℕ)
+    ensures begins { (largest : ℕ) (ids : List CopyId) (ns : List ℕ) (limits : Capacity) (choice : MemberChoice) (now : ℕ)
         → (clean : Bool) (rest : List Back) (r : Receiver) (l : Line) (b : Broker)
         → IsAwaiting largest ids ns r b → IsBeginning limits (left_alone r) l b
         → is_one_of r.line.number (l.number ∷ []) ≡ false
@@ -55,7 +55,7 @@ pub fn a_connect_on_the_line_given_up_puts_a_receiver_in_step()
         → IsInStep largest ids (suc b.records.births) ns
         (reads_old_answer limits choice now l.number (connect clean) r b)
         (after_answer limits choice now l.number (connect clean) r b) }
-    ensures renews { (largest : ℕ) (ids : List CopyId) (birth : ℕ) (ns : List ℕ) (limits : Limits)
+    ensures renews { (largest : ℕ) (ids : List CopyId) (birth : ℕ) (ns : List ℕ) (limits : Capacity)
         → (choice : MemberChoice) (now : ℕ) (rest : List Back) (r : Receiver) (l : Line) (s : Session) (b : Broker)
         → IsInStep largest ids birth ns r b → IsRenewing limits (left_alone r) l s b
         → is_one_of r.line.number (l.number ∷ []) ≡ false
@@ -64,7 +64,7 @@ pub fn a_connect_on_the_line_given_up_puts_a_receiver_in_step()
         → IsInStep largest ids (suc b.records.births) ns
         (reads_old_answer limits choice now l.number (connect true) r b)
         (after_answer limits choice now l.number (connect true) r b) }
-    ensures refuses { (largest : ℕ) (ids : List CopyId) (ns : List ℕ) (limits : Limits) (choice : MemberChoice) (now : ℕ)
+    ensures refuses { (largest : ℕ) (ids : List CopyId) (ns : List ℕ) (limits : Capacity) (choice : MemberChoice) (now : ℕ)
         → (clean : Bool) (rest : List Back) (r : Receiver) (l : Line) (b : Broker)
         → IsAwaiting largest ids ns r b → IsBeginning limits (left_alone r) l b
         → is_one_of r.line.number (l.number ∷ []) ≡ false
@@ -77,7 +77,7 @@ pub fn a_connect_on_the_line_given_up_puts_a_receiver_in_step()
 /// step, with the copies of retained messages that its filter brings behind those that entered before, or with none; its
 /// SUBACK goes nowhere (3.3.1.3, 3.8.4).
 pub fn a_subscribe_on_the_line_given_up_leaves_a_receiver_in_step()
-    ensures subscribes { (largest : ℕ) (ids : List CopyId) (limits : Limits) (choice : MemberChoice) (now birth : ℕ)
+    ensures subscribes { (largest : ℕ) (ids : List CopyId) (limits : Capacity) (choice : MemberChoice) (now birth : ℕ)
         → (ns : List ℕ) (w : Wish) (rest : List Back) (r : Receiver) (l : Line) (s : Session) (b : Broker)
         → IsInStep largest ids birth ns r b → IsLingering r l s b → IsTidy limits b → r.line.old ≡ asks_for w ∷ rest
         → Subscribed largest ids birth ns (suc b.records.subscribes)
@@ -89,22 +89,22 @@ pub fn a_subscribe_on_the_line_given_up_leaves_a_receiver_in_step()
 /// or the broker has closed the line. Nothing is sent; the receiver leaves a line that is lost; and the two stay in step, or
 /// the receiver awaits its session as before (3.1, 4.4).
 pub fn a_line_without_session_leaves_a_receiver_as_it_is()
-    ensures sends { (largest : ℕ) (ids : List CopyId) (birth : ℕ) (ns : List ℕ) (limits : Limits) (choice : MemberChoice)
+    ensures sends { (largest : ℕ) (ids : List CopyId) (birth : ℕ) (ns : List ℕ) (limits : Capacity) (choice : MemberChoice)
         → (now n : ℕ) (r : Receiver) (b : Broker)
         → IsInStep largest ids birth ns r b → IsIdle n b
         → IsInStep largest ids birth ns (receiver_called limits choice now (Pump n) r b)
         (stepped limits choice now (Pump n) b) }
-    ensures loses { (largest : ℕ) (ids : List CopyId) (birth : ℕ) (ns : List ℕ) (limits : Limits) (choice : MemberChoice)
+    ensures loses { (largest : ℕ) (ids : List CopyId) (birth : ℕ) (ns : List ℕ) (limits : Capacity) (choice : MemberChoice)
         → (now n : ℕ) (r : Receiver) (b : Broker)
         → IsInStep largest ids birth ns r b → IsIdle n b
         → IsInStep largest ids birth ns (receiver_lost limits choice now n r b)
         (stepped limits choice now (Lost n) b) }
-    ensures sends_awaiting { (largest : ℕ) (ids : List CopyId) (ns : List ℕ) (limits : Limits) (choice : MemberChoice)
+    ensures sends_awaiting { (largest : ℕ) (ids : List CopyId) (ns : List ℕ) (limits : Capacity) (choice : MemberChoice)
         → (now n : ℕ) (r : Receiver) (b : Broker)
         → IsAwaiting largest ids ns r b → IsIdle n b
         → IsAwaiting largest ids ns (receiver_called limits choice now (Pump n) r b)
         (stepped limits choice now (Pump n) b) }
-    ensures loses_awaiting { (largest : ℕ) (ids : List CopyId) (ns : List ℕ) (limits : Limits) (choice : MemberChoice)
+    ensures loses_awaiting { (largest : ℕ) (ids : List CopyId) (ns : List ℕ) (limits : Capacity) (choice : MemberChoice)
         → (now n : ℕ) (r : Receiver) (b : Broker)
         → IsAwaiting largest ids ns r b → IsIdle n b
         → IsAwaiting largest ids ns (receiver_lost limits choice now n r b)
@@ -115,7 +115,7 @@ pub fn a_line_without_session_leaves_a_receiver_as_it_is()
 /// line: if a line of its number stands after it, it is the same one. So nothing has gone out on a line that waits for
 /// CONNECT (3.1, 4.4).
 pub fn a_line_without_session_stays_as_it_is()
-    ensures stays { (limits : Limits) (choice : MemberChoice) (now n : ℕ) (call : Call) (l : Line) (b : Broker)
+    ensures stays { (limits : Capacity) (choice : MemberChoice) (now n : ℕ) (call : Call) (l : Line) (b : Broker)
         → IsIdle n b → IsElsewhere n call → line_at n (stepped limits choice now call b) ≡ Some l
         → line_at n b ≡ Some l }
 {}

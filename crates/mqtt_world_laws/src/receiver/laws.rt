@@ -20,7 +20,7 @@ ghost use Rattle.mqtt_world_model.specs.model.World.{asks_wish};
 ghost use Rattle.mqtt_records.specs.declared.state.session.Session.{Session};
 ghost use Rattle.mqtt_rules.specs.step.State.{Broker, Line, MemberChoice, session_named};
 ghost use Rattle.mqtt_rules.specs.step.Step.{Lost, NewLine, stepped};
-ghost use Rattle.mqtt_rules.specs.declared.step.Limits.{Limits};
+ghost use Rattle.mqtt_rules.specs.declared.step.Capacity.{Capacity};
 
 /// What a receiver and its session see of the world is a run of their hop when the receiver comes, if no
 /// session of its name stands, and stays one whatever it does or reads: it reads the first packet under way to
@@ -38,9 +38,9 @@ pub fn own_doings_of_a_receiver_are_steps_of_the_hop()
         → IsRun number largest copies (record r { line = gives_up r.line.link r.line }) b }
     ensures asks { (number : Numbering) (largest : ℕ) (copies : List Lot) (t : Bool) (w : Wish) (r : Receiver)
         → (b : Broker) → IsRun number largest copies r b → IsRun number largest copies (asks_wish t w r) b }
-    ensures joins { (number : Numbering) (largest : ℕ) (copies : List Lot) (limits : Limits)
+    ensures joins { (number : Numbering) (largest : ℕ) (copies : List Lot) (limits : Capacity)
         → (choice : MemberChoice) (now : ℕ) (clean : Bool) (r : Receiver) (b : Broker)
-        → IsRun number largest copies r b → MayComeBack clean r b
+        → IsRun number largest copies r b → MayComeBack limits clean r b
         → IsRun number largest copies (receiver_joined limits choice now clean r b)
         (stepped limits choice now NewLine b) }
 {}
@@ -83,7 +83,7 @@ pub fn a_run_of_the_hop_hands_over_once()
 /// what the receiver and its session see of the world stays a run of their hop, with the same copies, whether
 /// the answer ends a copy, releases it, is passed over, or breaks the protocol (4.3.2, 4.3.3, 4.13).
 pub fn answers_of_a_receiver_are_steps_of_the_hop()
-    ensures answers { (number : Numbering) (largest : ℕ) (copies : List Lot) (limits : Limits) (choice : MemberChoice)
+    ensures answers { (number : Numbering) (largest : ℕ) (copies : List Lot) (limits : Capacity) (choice : MemberChoice)
         → (now : ℕ) (a : Answer) (rest : List Back) (r : Receiver) (l : Line) (s : Session) (b : Broker)
         → HasNoConnect (a ∷ []) → IsRun number largest copies r b → IsListening r l s b
         → r.line.up ≡ answers a ∷ rest
@@ -94,7 +94,7 @@ pub fn answers_of_a_receiver_are_steps_of_the_hop()
 /// The line that a receiver's session is connected on is lost, and the receiver leaves it: what the two see
 /// of the world stays a run of their hop (4.4).
 pub fn a_lost_line_is_a_step_of_the_hop()
-    ensures loses { (number : Numbering) (largest : ℕ) (copies : List Lot) (limits : Limits)
+    ensures loses { (number : Numbering) (largest : ℕ) (copies : List Lot) (limits : Capacity)
         → (choice : MemberChoice) (now : ℕ) (r : Receiver) (l : Line) (s : Session) (b : Broker)
         → IsRun number largest copies r b → IsListening r l s b
         → IsRun number largest copies (receiver_lost limits choice now l.number r b)

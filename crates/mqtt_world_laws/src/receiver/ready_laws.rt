@@ -11,7 +11,7 @@ ghost use Rattle.mqtt_records.specs.declared.state.session.Session.{Session};
 ghost use Rattle.mqtt_rules.specs.step.Flight.{HasDistinctIdentifiers};
 ghost use Rattle.mqtt_rules.specs.step.State.{Broker, Line, MemberChoice};
 ghost use Rattle.mqtt_rules.specs.step.Step.{Lost, Pump, stepped};
-ghost use Rattle.mqtt_rules.specs.declared.step.Limits.{Limits};
+ghost use Rattle.mqtt_rules.specs.declared.step.Capacity.{Capacity};
 ghost use Rattle.mqtt_rules.specs.whole.Whole.{FitsWhole};
 
 /// If what went out on the line of a receiver's session are copies that stand in its queue, so that it may
@@ -19,25 +19,25 @@ ghost use Rattle.mqtt_rules.specs.whole.Whole.{FitsWhole};
 /// the one that it gave up, or has lost its line. Asked of sending: each copy of the queue is, with its whole topic, no
 /// larger than the line's client takes (3.1.2.11.4, 4.4, 4.6, 4.9).
 pub fn a_receivers_session_may_receive_more()
-    ensures sends { (number : Numbering) (largest : ℕ) (copies : List Lot) (limits : Limits)
+    ensures sends { (number : Numbering) (largest : ℕ) (copies : List Lot) (limits : Capacity)
         → (choice : MemberChoice) (now : ℕ) (r : Receiver) (l : Line) (s : Session) (b : Broker)
         → IsRun number largest copies r b → IsListening r l s b → IsReceiving r s b
         → l.largest ≡ largest → FitsWhole l s → HasDistinctIdentifiers b.records
         → Receives (receiver_called limits choice now (Pump l.number) r b)
         (stepped limits choice now (Pump l.number) b) }
-    ensures answers { (number : Numbering) (largest : ℕ) (copies : List Lot) (limits : Limits) (choice : MemberChoice)
+    ensures answers { (number : Numbering) (largest : ℕ) (copies : List Lot) (limits : Capacity) (choice : MemberChoice)
         → (now : ℕ) (a : Answer) (rest : List Back) (r : Receiver) (l : Line) (s : Session) (b : Broker)
         → HasNoConnect (a ∷ []) → IsRun number largest copies r b → IsListening r l s b → IsReceiving r s b
         → r.line.up ≡ answers a ∷ rest
         → Receives (reads_answer limits choice now l.number a r b)
         (after_answer limits choice now l.number a r b) }
-    ensures old_answers { (number : Numbering) (largest : ℕ) (copies : List Lot) (limits : Limits)
+    ensures old_answers { (number : Numbering) (largest : ℕ) (copies : List Lot) (limits : Capacity)
         → (choice : MemberChoice) (now : ℕ) (a : Answer) (rest : List Back) (r : Receiver) (l : Line) (s : Session)
         → (b : Broker) → HasNoConnect (a ∷ []) → IsRun number largest copies r b → IsLingering r l s b
         → IsReceiving r s b → r.line.old ≡ answers a ∷ rest
         → Receives (reads_old_answer limits choice now l.number a r b)
         (after_answer limits choice now l.number a r b) }
-    ensures loses { (limits : Limits) (choice : MemberChoice) (now : ℕ) (r : Receiver) (l : Line) (s : Session)
+    ensures loses { (limits : Capacity) (choice : MemberChoice) (now : ℕ) (r : Receiver) (l : Line) (s : Session)
         → (b : Broker) → IsListening r l s b
         → Receives (receiver_lost limits choice now l.number r b) (stepped limits choice now (Lost l.number) b) }
 {}
@@ -45,18 +45,18 @@ pub fn a_receivers_session_may_receive_more()
 /// After the broker has read a receiver's CONNECT, by which its session is resumed, begins or is renewed, the session
 /// may receive more: nothing has gone out on its new line yet (3.1.2.4, 3.1.4, 4.4).
 pub fn a_connected_session_may_receive_more()
-    ensures resumes { (number : Numbering) (largest : ℕ) (copies : List Lot) (limits : Limits) (choice : MemberChoice)
+    ensures resumes { (number : Numbering) (largest : ℕ) (copies : List Lot) (limits : Capacity) (choice : MemberChoice)
         → (now : ℕ) (rest : List Back) (r : Receiver) (l : Line) (s : Session) (b : Broker)
         → IsRun number largest copies r b → IsResuming r l s b → r.line.up ≡ answers (connect false) ∷ rest
         → Receives (reads_answer limits choice now l.number (connect false) r b)
         (after_answer limits choice now l.number (connect false) r b) }
-    ensures begins { (number : Numbering) (largest : ℕ) (copies : List Lot) (limits : Limits) (choice : MemberChoice)
+    ensures begins { (number : Numbering) (largest : ℕ) (copies : List Lot) (limits : Capacity) (choice : MemberChoice)
         → (now : ℕ) (clean : Bool) (rest : List Back) (r : Receiver) (l : Line) (b : Broker)
         → IsRun number largest copies r b → IsBeginning limits r l b
         → nat_lt (length b.records.sessions) limits.sessions ≡ true → r.line.up ≡ answers (connect clean) ∷ rest
         → Receives (reads_answer limits choice now l.number (connect clean) r b)
         (after_answer limits choice now l.number (connect clean) r b) }
-    ensures renews { (number : Numbering) (largest : ℕ) (copies : List Lot) (limits : Limits) (choice : MemberChoice)
+    ensures renews { (number : Numbering) (largest : ℕ) (copies : List Lot) (limits : Capacity) (choice : MemberChoice)
         → (now : ℕ) (rest : List Back) (r : Receiver) (l : Line) (s : Session) (b : Broker)
         → IsRun number largest copies r b → IsRenewing limits r l s b → r.line.up ≡ answers (connect true) ∷ rest
         → Receives (reads_answer limits choice now l.number (connect true) r b)

@@ -13,13 +13,13 @@ ghost use Rattle.mqtt_world_model.specs.model.World.{Asking, Setting, World, hap
 ghost use Rattle.mqtt_records.specs.state.Session.{auto};
 ghost use Rattle.mqtt_rules.specs.step.State.{Broker, MemberChoice, session_named};
 ghost use Rattle.mqtt_rules.specs.step.Step.{Call, at_moment, stepped};
-ghost use Rattle.mqtt_rules.specs.declared.step.Limits.{Limits};
+ghost use Rattle.mqtt_rules.specs.declared.step.Capacity.{Capacity};
 
 /// The broker restarts: it opens with what is stored, and no line is left. Whatever Wills are due then, copies enter
 /// and sessions end, what a receiver and its session see of it stays a run of their hop, with the copies that entered
 /// its queue behind those that entered before; its session is its own as before, and it has no line (4.1, 4.4).
 pub fn a_restart_is_a_step_of_the_receivers_hop()
-    ensures restarts { (largest : ℕ) (ids : List CopyId) (limits : Limits) (choice : MemberChoice) (now birth : ℕ)
+    ensures restarts { (largest : ℕ) (ids : List CopyId) (limits : Capacity) (choice : MemberChoice) (now birth : ℕ)
         → (ns : List ℕ) (r : Receiver) (b : Broker)
         → RunsFor largest ids birth r b → IsServed r.client birth ns b → IsTidy limits b
         → starts_with nat_eq r.client auto ≡ false
@@ -27,7 +27,7 @@ pub fn a_restart_is_a_step_of_the_receivers_hop()
     ensures lines { (r : Receiver) → HasLines [] (receiver_restarted r) }
 
     // While no session of its name stands, none does after it.
-    ensures without { (number : Numbering) (largest : ℕ) (copies : List Lot) (limits : Limits) (choice : MemberChoice)
+    ensures without { (number : Numbering) (largest : ℕ) (copies : List Lot) (limits : Capacity) (choice : MemberChoice)
         → (now : ℕ) (r : Receiver) (b : Broker)
         → IsRun number largest copies r b → session_named r.client b.records ≡ None
         → RunsOn number largest copies (receiver_restarted r) (reopened limits choice now b)
@@ -37,9 +37,9 @@ pub fn a_restart_is_a_step_of_the_receivers_hop()
 /// A broker whose tables are in order, under limits within the tables' own, is so after each call and each restart, also
 /// if queues stand that are longer than it allows (4.1).
 pub fn a_tidy_broker_stays_tidy()
-    ensures steps { (limits : Limits) (choice : MemberChoice) (now : ℕ) (call : Call) (b : Broker) → IsTidy limits b
+    ensures steps { (limits : Capacity) (choice : MemberChoice) (now : ℕ) (call : Call) (b : Broker) → IsTidy limits b
         → IsTidy limits (stepped limits choice now call b) }
-    ensures opens { (limits : Limits) (choice : MemberChoice) (now : ℕ) (b : Broker) → IsTidy limits b
+    ensures opens { (limits : Capacity) (choice : MemberChoice) (now : ℕ) (b : Broker) → IsTidy limits b
         → IsTidy limits (reopened limits choice now b) }
 {}
 
@@ -57,7 +57,7 @@ pub fn a_stop_before_the_commit_is_a_restart()
 pub fn a_stop_after_the_commit_is_a_step_of_the_receivers_hop()
     ensures receivers { (set : Setting) (a : Asking) (w : World)
         → (happens set (stop_after a) w).receivers ≡ (happens set restart w).receivers }
-    ensures others { (largest : ℕ) (ids : List CopyId) (limits : Limits) (choice : MemberChoice) (now : ℕ) (call : Call)
+    ensures others { (largest : ℕ) (ids : List CopyId) (limits : Capacity) (choice : MemberChoice) (now : ℕ) (call : Call)
         → (birth : ℕ) (ns : List ℕ) (r : Receiver) (b : Broker)
         → RunsFor largest ids birth r b → IsServed r.client birth ns b → HasLines ns r → IsTidy limits b
         → starts_with nat_eq r.client auto ≡ false → IsCallOfOthers r.client ns call (at_moment now b)
@@ -65,7 +65,7 @@ pub fn a_stop_after_the_commit_is_a_step_of_the_receivers_hop()
         (receiver_restarted r) (stopped_after limits choice now call b) }
 
     // If it was a call that leaves the two in step with the same copies.
-    ensures own { (largest : ℕ) (ids : List CopyId) (limits : Limits) (choice : MemberChoice) (now : ℕ) (call : Call)
+    ensures own { (largest : ℕ) (ids : List CopyId) (limits : Capacity) (choice : MemberChoice) (now : ℕ) (call : Call)
         → (birth : ℕ) (ns : List ℕ) (r : Receiver) (b : Broker)
         → IsInStep largest ids birth ns r (stepped limits choice now call b) → IsTidy limits b
         → starts_with nat_eq r.client auto ≡ false

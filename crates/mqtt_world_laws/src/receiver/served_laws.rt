@@ -8,14 +8,14 @@ ghost use Rattle.mqtt_world_model.specs.model.Ends.{Receiver};
 ghost use Rattle.mqtt_records.specs.state.Session.{auto};
 ghost use Rattle.mqtt_rules.specs.step.State.{Broker, MemberChoice};
 ghost use Rattle.mqtt_rules.specs.step.Step.{Call, Tick, at_moment, stepped};
-ghost use Rattle.mqtt_rules.specs.declared.step.Limits.{Limits};
+ghost use Rattle.mqtt_rules.specs.declared.step.Capacity.{Capacity};
 
 /// A call of the broker that is made for others: a packet, a fault or a loss on another line, sending there, a new line
 /// or a tick, whatever it does. Publications are accepted, Wills are published, copies expire, sessions begin, end and
 /// are taken over: what a receiver and its session see of it stays a run of their hop, with the copies that entered
 /// its queue behind those that entered before, and the session may receive more (3.1.4, 3.3.4, 4.1, 4.6).
 pub fn calls_of_others_are_steps_of_the_hop()
-    ensures others { (largest : ℕ) (ids : List CopyId) (limits : Limits) (choice : MemberChoice) (now : ℕ) (call : Call)
+    ensures others { (largest : ℕ) (ids : List CopyId) (limits : Capacity) (choice : MemberChoice) (now : ℕ) (call : Call)
         → (birth : ℕ) (ns : List ℕ) (r : Receiver) (b : Broker)
         → RunsFor largest ids birth r b → IsServed r.client birth ns b → HasLines ns r → IsTidy limits b
         → starts_with nat_eq r.client auto ≡ false → IsCallOfOthers r.client ns call (at_moment now b)
@@ -27,7 +27,7 @@ pub fn calls_of_others_are_steps_of_the_hop()
 /// its session stands: what is under way there isn't read, and what the two see of it stays a run of their hop, with
 /// the same copies; its session and its lines are its own as before (3.1, 4.1).
 pub fn a_late_connect_is_a_step_of_the_hop()
-    ensures closes { (largest : ℕ) (ids : List CopyId) (limits : Limits) (choice : MemberChoice) (now birth : ℕ)
+    ensures closes { (largest : ℕ) (ids : List CopyId) (limits : Capacity) (choice : MemberChoice) (now birth : ℕ)
         → (ns : List ℕ) (n : ℕ) (r : Receiver) (b : Broker)
         → RunsFor largest ids birth r b → IsServed r.client birth ns b → IsOverdue n (at_moment now b)
         → RunsFor largest ids birth (receiver_called limits choice now Tick r b) (stepped limits choice now Tick b)

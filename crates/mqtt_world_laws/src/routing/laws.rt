@@ -6,7 +6,7 @@ ghost use Rattle.mqtt_world_model.specs.model.World.{World, start};
 ghost use Rattle.mqtt_routes.specs.routing.Acceptance.{Routed, routed};
 ghost use Rattle.mqtt_routes.specs.routing.Intended.{Answers, Publication};
 ghost use Rattle.mqtt_routes.specs.routing.Subscriptions.{AreInOrder, Subscriber};
-ghost use Rattle.mqtt_rules.specs.declared.step.Limits.{Limits};
+ghost use Rattle.mqtt_rules.specs.declared.step.Capacity.{Capacity};
 ghost use Rattle.mqtt_world_laws.specs.acceptance.Fair.{IsCounted, IsNew};
 ghost use Rattle.mqtt_world_laws.specs.routing.Groups.{EachGetsOne};
 ghost use Rattle.mqtt_world_laws.specs.routing.Intended.{AllEnterAsIntended};
@@ -26,17 +26,17 @@ pub fn each_session_and_each_group_gets_one_copy()
 /// of them once, and no other copy of this publication but those that a later SUBSCRIBE brings of it as a retained
 /// message. So for each group one copy enters, or none if no member got one of QoS 1 or 2 (3.3.4, 4.3, 4.8.2).
 pub fn each_publication_enters_exactly_its_copies()
-    ensures enters { (limits : Limits) (ts : List Turn) (w : World) → IsNew w → IsCounted limits ts w
+    ensures enters { (limits : Capacity) (ts : List Turn) (w : World) → IsNew w → IsCounted limits ts w
         → AllEnterAsIntended limits ts w }
 
     // From nothing stored: so entered, at most once, and waits or has ended once, in the words of the run.
-    ensures every { (limits : Limits) (ts : List Turn) → IsCounted limits ts start → CopiesOnce limits ts }
+    ensures every { (limits : Capacity) (ts : List Turn) → IsCounted limits ts start → CopiesOnce limits ts }
 {}
 
 /// A member of a group gets a copy of QoS 0 only if its session is connected; and whoever is connected as a
 /// publication is accepted stands on a line. So that copy goes out at once, or it is too large for its client. A Will
 /// that is published as the broker opens goes to no such member: nobody is connected then (4.1, 4.3.1, 4.8.2).
 pub fn copies_of_members_find_a_line()
-    ensures { (limits : Limits) (ts : List Turn) (w : World) → IsNew w → IsCounted limits ts w
+    ensures { (limits : Capacity) (ts : List Turn) (w : World) → IsNew w → IsCounted limits ts w
         → AllHaveLines limits ts w }
 {}

@@ -1,7 +1,7 @@
 //! The laws of what goes out: each PUBLISH was asked for (MQTT 5.0, 3.3.1.3, 3.3.4, 3.8.3.1, 3.8.4, 4.8.2).
 ghost use Rattle.std.specs.Prelude.{ℕ, List, []};
 ghost use Rattle.mqtt_records.specs.declared.state.records.Records.{Records};
-ghost use Rattle.mqtt_rules.specs.declared.step.Limits.{Limits};
+ghost use Rattle.mqtt_rules.specs.declared.step.Capacity.{Capacity};
 ghost use Rattle.mqtt_rules.specs.step.Laws.{IsOrdered};
 ghost use Rattle.mqtt_rules.specs.step.State.{Broker, MemberChoice};
 ghost use Rattle.mqtt_rules.specs.step.Step.{Call};
@@ -20,9 +20,9 @@ ghost use Rattle.mqtt_world_laws.specs.unasked.Unasked.{SendsNothingUnasked, cal
 /// subscription, a message was retained, and Retain Handling asks for it. And a subscription is granted only as the SUBSCRIBE of its
 /// client asks (3.3.1.3, 3.3.4, 3.8.3.1, 3.8.4, 4.8.2).
 pub fn each_step_sends_what_was_asked_for()
-    ensures call { (limits : Limits) (choice : MemberChoice) (now : ℕ) (call : Call) (b : Broker) → IsOrdered b.records
+    ensures call { (limits : Capacity) (choice : MemberChoice) (now : ℕ) (call : Call) (b : Broker) → IsOrdered b.records
         → SendsNothingUnasked (call_step limits choice now call b) }
-    ensures opening { (limits : Limits) (choice : MemberChoice) (now : ℕ) (r : Records) → IsOrdered r
+    ensures opening { (limits : Capacity) (choice : MemberChoice) (now : ℕ) (r : Records) → IsOrdered r
         → SendsNothingUnasked (open_step limits choice now r) }
 {}
 
@@ -31,13 +31,13 @@ pub fn each_step_sends_what_was_asked_for()
 /// this step or in one before, and was called for by that session in the step in which it entered. Or it stood there at the beginning;
 /// from nothing stored none did (3.3.1.3, 3.3.4, 3.8.3.1, 3.8.4, 4.3, 4.8.2).
 pub fn nobody_is_sent_what_he_did_not_ask_for()
-    ensures run { (limits : Limits) (ts : List Turn) (w : World) → IsNew w → IsCounted limits ts w
+    ensures run { (limits : Capacity) (ts : List Turn) (w : World) → IsNew w → IsCounted limits ts w
         → NobodyIsSentUnasked (queued_at w.broker) limits ts w }
-    ensures from_nothing { (limits : Limits) (ts : List Turn) → IsCounted limits ts start
+    ensures from_nothing { (limits : Capacity) (ts : List Turn) → IsCounted limits ts start
         → NobodyIsSentUnasked [] limits ts start }
 
     // So over every script of events and drains.
-    ensures script { (limits : Limits) (ds : List Doing) (w : World) → IsNew w → IsCounted limits (all_turns limits ds w) w
+    ensures script { (limits : Capacity) (ds : List Doing) (w : World) → IsNew w → IsCounted limits (all_turns limits ds w) w
         → NobodyIsSentUnasked (queued_at w.broker) limits (all_turns limits ds w) w }
 {}
 
@@ -46,8 +46,8 @@ pub fn nobody_is_sent_what_he_did_not_ask_for()
 /// copies, and no more of them than there are copies: so for a group one goes out at most. Which of them have to go out the law
 /// `copies_of_qos_0_go_out_at_once` says (3.3.1.3, 3.3.4, 4.3.1, 4.8.2).
 pub fn nothing_goes_out_twice_at_once()
-    ensures call { (limits : Limits) (choice : MemberChoice) (now : ℕ) (call : Call) (b : Broker) → IsOrdered b.records
+    ensures call { (limits : Capacity) (choice : MemberChoice) (now : ℕ) (call : Call) (b : Broker) → IsOrdered b.records
         → SendsEachOnce (call_step limits choice now call b) }
-    ensures opening { (limits : Limits) (choice : MemberChoice) (now : ℕ) (r : Records) → IsOrdered r
+    ensures opening { (limits : Capacity) (choice : MemberChoice) (now : ℕ) (r : Records) → IsOrdered r
         → SendsEachOnce (open_step limits choice now r) }
 {}

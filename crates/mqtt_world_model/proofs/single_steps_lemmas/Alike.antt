@@ -102,7 +102,7 @@ links_alike set (Some n) client clean w alike = alike
 happens_alike : (set : Setting) (e : Event) (w : World) → AreAllAlike w → AreAllAlike (happens set e w)
 happens_alike set (publisher client) w alike = alike
 happens_alike set (receiver client window aliases) w alike = alike
-happens_alike set (connect_end client clean) w alike = links_alike set (next_line w.broker) client clean w alike
+happens_alike set (connect_end client clean) w alike = links_alike set (next_line set.limits w.broker) client clean w alike
 happens_alike set (give_up client) w alike = alike
 happens_alike set (publish client d) w alike = alike
 happens_alike set (subscribe client x) w alike = alike

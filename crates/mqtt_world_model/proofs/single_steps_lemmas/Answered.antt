@@ -280,7 +280,7 @@ splits_there set name held part more packet w h there e =
 
 -- the world in which it is linked, and nothing of it has come
 abbrev pub newcomer : Setting → List ℕ → World → Stranger
-newcomer set name w = record { name = name; number = cond (can_link w.broker) (Some (suc w.broker.given)) None; held = [] }
+newcomer set name w = record { name = name; number = cond (can_link set.limits w.broker) (Some (suc w.broker.given)) None; held = [] }
 
 abbrev pub welcomed : Setting → List ℕ → World → World
 welcomed set name w = with_strangers (calls set NewLine w) (w.strangers ++ newcomer set name w ∷ [])

@@ -4,7 +4,7 @@ use Rattle.std.specs.Prelude.{◌⊎◌}
 use Rattle.std.specs.List.{concat}
 use Rattle.std.proofs.lemmas.List.{append-nil}
 use Rattle.mqtt_rules.specs.step.State.{MemberChoice}
-use Rattle.mqtt_rules.specs.declared.step.Limits.{Limits}
+use Rattle.mqtt_rules.specs.declared.step.Capacity.{Capacity}
 use Rattle.mqtt_world_model.specs.model.Run.{run, turned}
 use Rattle.mqtt_world_model.specs.model.World.{Asking, Event, Setting, World, ask, asks, break, bytes_held, bytes_name, clock, connect_end}
 use Rattle.mqtt_world_model.specs.model.World.{first_step, give_up, is_bad, is_bad_asking, old_to_broker, publish, publisher, pump, receiver}
@@ -92,7 +92,7 @@ abbrev steps : Setting → List Event → World → World
 steps set [] w = w
 steps set (e ∷ es) w = steps set es (step set e w)
 
-run_steps : (limits : Limits) (choice : MemberChoice) (es : List Event) (w : World)
+run_steps : (limits : Capacity) (choice : MemberChoice) (es : List Event) (w : World)
     → run limits (map (turn choice) es) w ≡ steps (record { limits = limits; choice = choice }) es w
 run_steps limits choice [] w = refl
 run_steps limits choice (e ∷ es) w = run_steps limits choice es (turned limits (turn choice e) w)
@@ -170,7 +170,7 @@ event_steps set (stop_before a) es w alike good is = one_step set (stop_before a
 event_steps set (stop_after a) es w alike good is = stop_steps set a es w alike good is
 
 -- an event is the run of the events of one step that it comes to
-pub event_is : (limits : Limits) (choice : MemberChoice) (e : Event) (es : List Event) (w : World) → AreAllAlike w
+pub event_is : (limits : Capacity) (choice : MemberChoice) (e : Event) (es : List Event) (w : World) → AreAllAlike w
     → is_bad e w ≡ false → Unrolls e w es → run limits (map (turn choice) es) w ≡ turned limits (turn choice e) w
 event_is limits choice e es w alike good is =
     run_steps limits choice es w ∙ event_steps (record { limits = limits; choice = choice }) e es w alike good is

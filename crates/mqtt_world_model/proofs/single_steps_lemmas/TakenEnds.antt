@@ -11,7 +11,7 @@ use Rattle.mqtt_records.specs.state.Session.{auto}
 use Rattle.mqtt_rules.proofs.step_lemmas.numbers.Copies.{each_append}
 use Rattle.mqtt_rules.proofs.step_lemmas.flight.FlightRows.{all_more}
 use Rattle.mqtt_rules.specs.step.Step.{Call, NewLine, stepped, told}
-use Rattle.mqtt_rules.specs.declared.step.Limits.{Limits}
+use Rattle.mqtt_rules.specs.declared.step.Capacity.{Capacity}
 use Rattle.mqtt_world_model.specs.model.Ends.{Back, Publisher, Receiver, Sent, answers, new_publisher, new_receiver, publisher_reads, published, receiver_reads, shake}
 use Rattle.mqtt_world_model.specs.model.Lines.{Line, gives_up, joined, left, told_by}
 use Rattle.mqtt_world_model.specs.model.Run.{Turn, run, setting, turned}
@@ -145,7 +145,7 @@ happens_sound (receiver client window aliases) set w good h =
       publishers = h.publishers;
       receivers = each_append IsSoundReceiver w.receivers (new_receiver client window aliases since ∷ []) h.receivers (new_receiver_sound client window aliases since (name_of client both.0) (is_so (may_take window aliases) more.1), tt);
     }
-happens_sound (connect_end client clean) set w good h = links_sound set (next_line w.broker) client clean w h
+happens_sound (connect_end client clean) set w good h = links_sound set (next_line set.limits w.broker) client clean w h
 happens_sound (give_up client) set w good h =
     lines_sound client (λ l. gives_up l.link l) (λ l. gives_up l.link l) w (λ k l c. gives_carries (IsGoodSent k) l c) (λ l c. gives_carries IsGoodBack l c) h
 happens_sound (publish client d) set w good h =
@@ -174,14 +174,14 @@ happens_sound (stop_after a) set w good h = restarts_sound set (first_step set a
 -- ---- a run
 
 -- an event leaves each end sound, whichever it is
-pub turned_sound : (limits : Limits) (t : Turn) (w : World) → AreSound w → AreSound (turned limits t w)
+pub turned_sound : (limits : Capacity) (t : Turn) (w : World) → AreSound w → AreSound (turned limits t w)
 turned_sound limits t w h = by (is_bad t.event w) refl
   where
     by : (bad : Bool) → is_bad t.event w ≡ bad → AreSound (cond bad w (happens (setting limits t) t.event w))
     by true is = h
     by false is = happens_sound t.event (setting limits t) w is h
 
-run_sound : (limits : Limits) (ts : List Turn) (w : World) → AreSound w → AreSound (run limits ts w)
+run_sound : (limits : Capacity) (ts : List Turn) (w : World) → AreSound w → AreSound (run limits ts w)
 run_sound limits [] w h = h
 run_sound limits (t ∷ ts) w h = run_sound limits ts (turned limits t w) (turned_sound limits t w h)
 
@@ -198,9 +198,9 @@ pub from_receivers : (w : World) → AreSound w → AllByRecursion IsTakenFromRe
 from_receivers w h = all_more IsSoundReceiver IsTakenFromReceiver w.receivers sound_taken_back h.receivers
 
 -- in every run publishers have sent what a broker takes
-pub publishers_taken : (limits : Limits) (ts : List Turn) (w : World) → w.publishers ≡ [] → w.receivers ≡ [] → AllByRecursion IsTakenFrom (run limits ts w).publishers
+pub publishers_taken : (limits : Capacity) (ts : List Turn) (w : World) → w.publishers ≡ [] → w.receivers ≡ [] → AllByRecursion IsTakenFrom (run limits ts w).publishers
 publishers_taken limits ts w ps rs = from_publishers (run limits ts w) (run_sound limits ts w (nobody_sound w ps rs))
 
 -- in every run receivers have sent what a broker takes
-pub receivers_taken : (limits : Limits) (ts : List Turn) (w : World) → w.publishers ≡ [] → w.receivers ≡ [] → AllByRecursion IsTakenFromReceiver (run limits ts w).receivers
+pub receivers_taken : (limits : Capacity) (ts : List Turn) (w : World) → w.publishers ≡ [] → w.receivers ≡ [] → AllByRecursion IsTakenFromReceiver (run limits ts w).receivers
 receivers_taken limits ts w ps rs = from_receivers (run limits ts w) (run_sound limits ts w (nobody_sound w ps rs))

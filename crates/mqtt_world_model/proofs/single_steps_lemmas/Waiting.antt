@@ -78,7 +78,7 @@ links_wait set (Some n) client clean w h = h
 happens_wait : (set : Setting) (e : Event) (w : World) → AreAllAlike w → HoldNoPacket w → HoldNoPacket (happens set e w)
 happens_wait set (publisher client) w alike h = h
 happens_wait set (receiver client window aliases) w alike h = h
-happens_wait set (connect_end client clean) w alike h = links_wait set (next_line w.broker) client clean w h
+happens_wait set (connect_end client clean) w alike h = links_wait set (next_line set.limits w.broker) client clean w h
 happens_wait set (give_up client) w alike h = h
 happens_wait set (publish client d) w alike h = h
 happens_wait set (subscribe client x) w alike h = h

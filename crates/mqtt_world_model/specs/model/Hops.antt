@@ -11,7 +11,7 @@ use Rattle.mqtt_flow.specs.inbound.InboundWorld.{Event as HopEvent, spared, step
 use Rattle.mqtt_records.specs.declared.messages.message.Will.{Will}
 use Rattle.mqtt_records.specs.declared.state.session.Session.{Session}
 use Rattle.mqtt_records.specs.declared.state.records.Records.{Records}
-use Rattle.mqtt_rules.specs.declared.step.Limits.{Limits}
+use Rattle.mqtt_rules.specs.declared.step.Capacity.{Capacity}
 use Rattle.mqtt_rules.specs.step.State.{MemberChoice, Line as BrokerLine, Broker, session_at, session_named, line_at}
 use Rattle.mqtt_rules.specs.step.State.{line_of}
 use Rattle.mqtt_rules.specs.step.Closing.{never}
@@ -104,7 +104,7 @@ IsFarCall client n Tick = ⊤
 
 -- ---- after a step in which the first packet of its line was read
 
-abbrev pub after_step : Limits → MemberChoice → ℕ → Call → Publisher → Broker → Publisher
+abbrev pub after_step : Capacity → MemberChoice → ℕ → Call → Publisher → Broker → Publisher
 after_step limits choice now call p b =
     let q = record p { line = taken_up p.line } in
     publisher_told (stepped limits choice now call b) (told limits choice now call b) q
@@ -118,18 +118,18 @@ wire_1 p id k dup = wire p.client p.contents (shake (PUBLISH_1 id k dup))
 abbrev pub wire_2 : Publisher → ℕ → ℕ → Bool → Packet
 wire_2 p id k dup = wire p.client p.contents (shake (PUBLISH_2 id k dup))
 
-abbrev pub numbers_of : Limits → MemberChoice → ℕ → Call → Broker → List ℕ
+abbrev pub numbers_of : Capacity → MemberChoice → ℕ → Call → Broker → List ℕ
 numbers_of limits choice now call b = filter_map client_number (deeds limits choice now call b)
 
 -- what the publisher saw, with the messages that the step accepted from message k
-abbrev pub Becomes : Limits → MemberChoice → ℕ → Call → ℕ → Publisher → Broker → List ℕ → HopEvent → Type 0
+abbrev pub Becomes : Capacity → MemberChoice → ℕ → Call → ℕ → Publisher → Broker → List ℕ → HopEvent → Type 0
 Becomes limits choice now call k p b accepted e =
     seen (accepted ++ counted k (numbers_of limits choice now call b)) (after_step limits choice now call p b)
     (stepped limits choice now call b)
     ≡ step (seen accepted p b) e
 
 -- or what it saw is some events, with no message accepted
-abbrev pub IsUnheard : Limits → MemberChoice → ℕ → Call → Publisher → Broker → List ℕ → Type 0
+abbrev pub IsUnheard : Capacity → MemberChoice → ℕ → Call → Publisher → Broker → List ℕ → Type 0
 IsUnheard limits choice now call p b accepted =
     (es : List HopEvent)
     × (seen accepted (after_step limits choice now call p b) (stepped limits choice now call b)
@@ -148,18 +148,18 @@ abbrev pub IsLingering : Publisher → BrokerLine → Session → Broker → Typ
 IsLingering p l s b = IsConnected (turned_back p) l s b
 
 -- after a step in which the first packet of that line was read
-abbrev pub after_old_step : Limits → MemberChoice → ℕ → Call → Publisher → Broker → Publisher
+abbrev pub after_old_step : Capacity → MemberChoice → ℕ → Call → Publisher → Broker → Publisher
 after_old_step limits choice now call p b =
     let q = record p { line = taken_old p.line } in
     publisher_told (stepped limits choice now call b) (told limits choice now call b) q
 
-abbrev pub BecomesOld : Limits → MemberChoice → ℕ → Call → ℕ → Publisher → Broker → List ℕ → HopEvent → Type 0
+abbrev pub BecomesOld : Capacity → MemberChoice → ℕ → Call → ℕ → Publisher → Broker → List ℕ → HopEvent → Type 0
 BecomesOld limits choice now call k p b accepted e =
     seen (accepted ++ counted k (numbers_of limits choice now call b)) (after_old_step limits choice now call p b)
     (stepped limits choice now call b)
     ≡ step (seen accepted p b) e
 
-abbrev pub IsUnheardOld : Limits → MemberChoice → ℕ → Call → Publisher → Broker → List ℕ → Type 0
+abbrev pub IsUnheardOld : Capacity → MemberChoice → ℕ → Call → Publisher → Broker → List ℕ → Type 0
 IsUnheardOld limits choice now call p b accepted =
     (es : List HopEvent)
     × (seen accepted (after_old_step limits choice now call p b) (stepped limits choice now call b)
@@ -203,7 +203,7 @@ pub record IsAsking (p : Publisher) (l : BrokerLine) (s : Session) (b : Broker) 
       ≡ spared (filter_map shaken p.line.old)
 
 -- there is a place for a new session once its own has ended
-pub record MayBegin (limits : Limits) (client : List ℕ) (b : Broker) : Type 0 where
+pub record MayBegin (limits : Capacity) (client : List ℕ) (b : Broker) : Type 0 where
   pub births : HasGivenBirths b.records
   pub within : limits.sessions ≤ SESSION_LIMIT
   pub room : length b.records.sessions ≤ limits.sessions
@@ -213,7 +213,7 @@ abbrev pub connect_packet : Bool → Publisher → Packet
 connect_packet clean p = wire p.client p.contents (shake (CONNECT clean))
 
 -- the publisher's line waits, and no session of its name stands
-pub record IsFirst (limits : Limits) (p : Publisher) (l : BrokerLine) (b : Broker) : Type 0 where
+pub record IsFirst (limits : Capacity) (p : Publisher) (l : BrokerLine) (b : Broker) : Type 0 where
   pub number : p.line.number ≡ Some l.number
   pub line : line_at l.number b ≡ Some l
   pub waits : l.session ≡ None
@@ -243,7 +243,7 @@ hello_packet p = wire p.client p.contents (shake (CONNECT false))
 
 -- ---- its line is lost, and it leaves it
 
-abbrev pub lost_by : Limits → MemberChoice → ℕ → ℕ → Publisher → Broker → Publisher
+abbrev pub lost_by : Capacity → MemberChoice → ℕ → ℕ → Publisher → Broker → Publisher
 lost_by limits choice now n p b =
     let q = publisher_told (stepped limits choice now (Lost n) b) (told limits choice now (Lost n) b) p in
     record q { line = left q.line }
@@ -258,20 +258,20 @@ MayGiveUp live clean = ⊤
 
 -- ---- it joins by a new line
 
-abbrev pub joined_by : Limits → MemberChoice → ℕ → Bool → Publisher → Broker → Publisher
+abbrev pub joined_by : Capacity → MemberChoice → ℕ → Bool → Publisher → Broker → Publisher
 joined_by limits choice now clean p b =
     let q = publisher_told (stepped limits choice now NewLine b) (told limits choice now NewLine b) p in
     record q { line = joined (shake (CONNECT clean)) (suc b.given) clean q.line }
 
 -- a CONNECT for which there is a line, by an end that has none, which carries a Clean Start through
-pub record MayConnect {U : Type 0} (clean : Bool) (line : Line U) (b : Broker) : Type 0 where
-  pub can : can_link b ≡ true
+pub record MayConnect {U : Type 0} (limits : Capacity) (clean : Bool) (line : Line U) (b : Broker) : Type 0 where
+  pub can : can_link limits b ≡ true
   pub given : IsBelow line_number (suc b.given) b.lines
   pub away : line.link ≡ away
   pub carried : line.clean ≡ true → clean ≡ true
 
-abbrev pub MayJoin : Bool → Publisher → Broker → Type 0
-MayJoin clean p b = MayConnect clean p.line b
+abbrev pub MayJoin : Capacity → Bool → Publisher → Broker → Type 0
+MayJoin limits clean p b = MayConnect limits clean p.line b
 
 -- ---- runs of a hop
 

@@ -15,7 +15,7 @@ use Rattle.mqtt_flow.specs.outbound.Receiver.{Body}
 use Rattle.mqtt_flow.specs.inbound.Publisher.{Fate, IsExactlyOnce, completed, refused, ended, ended_1}
 use Rattle.mqtt_records.specs.messages.Queue.{CopyRow}
 use Rattle.mqtt_records.specs.declared.state.session.Session.{Session}
-use Rattle.mqtt_rules.specs.declared.step.Limits.{Limits}
+use Rattle.mqtt_rules.specs.declared.step.Capacity.{Capacity}
 use Rattle.mqtt_rules.specs.step.State.{Broker, session_named}
 use Rattle.mqtt_rules.specs.step.Deeds.{Message}
 use Rattle.mqtt_rules.specs.step.Routing.{CopyTo, accepted_copies, is_queued}
@@ -53,7 +53,7 @@ CarriesFrom client contents x = Carries client (content_at x.message contents) x
 -- exactly once if its handshake is completed, never if it was refused or has not gone out, and one of QoS 1 that was
 -- acknowledged at least once; what was accepted carries what the message does; and no session has over 20 identifiers
 -- open
-pub record AcceptedOnce (limits : Limits) (ts : List Turn) : Type 0 where
+pub record AcceptedOnce (limits : Capacity) (ts : List Turn) : Type 0 where
   pub once : (client : List ℕ) (n : ℕ) → IsExactlyOnce (fate_of client n (after limits ts))
       → accepted_count client n limits ts ≤ 1
   pub unsent : (client : List ℕ) (n : ℕ) → fate_of client n (after limits ts) ≡ None
@@ -119,16 +119,16 @@ id_of d = d.copy.id
 
 -- Each publication that was accepted, from whomever, was routed; its copies that entered are those of its routing with
 -- QoS 1 or 2, each once: one for each session with a direct copy, one for the member chosen of each group, and no other
-pub record EnteredOnce (limits : Limits) (ts : List Turn) (a : Acceptance) : Type 0 where
+pub record EnteredOnce (limits : Capacity) (ts : List Turn) (a : Acceptance) : Type 0 where
   pub copies : List CopyTo
   pub routed_is : accepted_copies a.env a.message a.broker ≡ Some copies
   pub entered_is : filter (is_own a.number) (entered_over limits ts) ≡ map id_of (filter is_queued copies)
 
-abbrev pub ended_copies : Limits → List Turn → List CopyId
+abbrev pub ended_copies : Capacity → List Turn → List CopyId
 ended_copies limits ts = map (λ (e : End). e.copy) (ended_over limits ts)
 
 -- Each copy entered at most once; one that entered waits in its session's queue or has exactly one end, never both
-pub record CopiesOnce (limits : Limits) (ts : List Turn) : Type 0 where
+pub record CopiesOnce (limits : Capacity) (ts : List Turn) : Type 0 where
   pub entered : All (EnteredOnce limits ts) (acceptances_over limits ts start)
   pub once : (c : CopyId) → count_of c (entered_over limits ts) ≤ 1
   pub waits_or_ended : (c : CopyId)
@@ -184,7 +184,7 @@ CarriesOn a e = CarriesOf a e.copy e.body
 
 -- Each QoS 2 copy of a receiver is handed over at most once, in the order in which the copies entered, and exactly once
 -- from when its PUBREC was taken; what is read carries what the publication does; one of QoS 1 that was taken was read
-pub record HandedOnce (limits : Limits) (ts : List Turn) (r : Receiver) : Type 0 where
+pub record HandedOnce (limits : Capacity) (ts : List Turn) (r : Receiver) : Type 0 where
   pub tagged : All (λ (e : Entry). is_some e.copy ≡ true) r.ledger
   pub once : (c : CopyId) → handed_count c r ≤ 1
   pub in_order : stand_among (copies_in r.ledger) (entered_over limits ts) ≡ true
@@ -195,5 +195,5 @@ pub record HandedOnce (limits : Limits) (ts : List Turn) (r : Receiver) : Type 0
       (acceptances_over limits ts start)
 
 -- of every receiver
-abbrev pub AllHandedOnce : Limits → List Turn → Type 0
+abbrev pub AllHandedOnce : Capacity → List Turn → Type 0
 AllHandedOnce limits ts = All (HandedOnce limits ts) (after limits ts).receivers

@@ -5,7 +5,7 @@ use Rattle.std.specs.List.{cons_option}
 use Rattle.mqtt_base.specs.declared.session.CopyId.{CopyId}
 use Rattle.mqtt_base.specs.declared.session.Ending.{Ending}
 use Rattle.mqtt_base.specs.declared.session.Qos.{Qos}
-use Rattle.mqtt_rules.specs.declared.step.Limits.{Limits}
+use Rattle.mqtt_rules.specs.declared.step.Capacity.{Capacity}
 use Rattle.mqtt_rules.specs.step.State.{Broker, Env, MemberChoice, session_named}
 use Rattle.mqtt_rules.specs.step.Deeds.{Message, FromClient, Enter, Leave, Deed, Accept, At, after as after_deed}
 use Rattle.mqtt_rules.specs.step.Step.{Call, NewLine, env_of, at_moment, deeds, opening, opening_deeds, unopened}
@@ -21,18 +21,18 @@ pub record Turn : Type 0 where
   pub event : Event
   pub choice : MemberChoice
 
-abbrev pub setting : Limits → Turn → Setting
+abbrev pub setting : Capacity → Turn → Setting
 setting limits t = record { limits = limits; choice = t.choice }
 
-abbrev pub turned : Limits → Turn → World → World
+abbrev pub turned : Capacity → Turn → World → World
 turned limits t w = step (setting limits t) t.event w
 
-abbrev pub run : Limits → List Turn → World → World
+abbrev pub run : Capacity → List Turn → World → World
 run limits [] w = w
 run limits (t ∷ ts) w = run limits ts (turned limits t w)
 
 -- the world after these turns, from nothing
-abbrev pub after : Limits → List Turn → World
+abbrev pub after : Capacity → List Turn → World
 after limits ts = run limits ts start
 
 -- ---- what is read off an event: off its new line, calls and openings, those that were committed, each on the world in
@@ -85,7 +85,7 @@ abbrev pub read_at : {X : Type 0} → Reading X → Setting → Event → World 
 read_at r set e w = cond (is_bad e w) r.nothing (read_in r set e w)
 
 -- off a run
-abbrev pub read_over : {X : Type 0} → Reading X → Limits → List Turn → World → X
+abbrev pub read_over : {X : Type 0} → Reading X → Capacity → List Turn → World → X
 read_over r limits [] w = r.nothing
 read_over r limits (t ∷ ts) w = r.join (read_at r (setting limits t) t.event w) (read_over r limits ts (turned limits t w))
 
@@ -103,7 +103,7 @@ the_deeds = record {
 abbrev pub deeds_at : Setting → Event → World → List Deed
 deeds_at set e w = read_at the_deeds set e w
 
-abbrev pub deeds_over : Limits → List Turn → World → List Deed
+abbrev pub deeds_over : Capacity → List Turn → World → List Deed
 deeds_over limits ts w = read_over the_deeds limits ts w
 
 -- ---- how often a publication was accepted from a message
@@ -146,13 +146,13 @@ abbrev pub accepted_at : List ℕ → Setting → Event → World → List ℕ
 accepted_at client set e w = each_of (message_read client e w) (deeds_at set e w)
 
 -- and in a run
-abbrev pub accepted_over : List ℕ → Limits → List Turn → World → List ℕ
+abbrev pub accepted_over : List ℕ → Capacity → List Turn → World → List ℕ
 accepted_over client limits [] w = []
 accepted_over client limits (t ∷ ts) w =
     accepted_at client (setting limits t) t.event w ++ accepted_over client limits ts (turned limits t w)
 
 -- accepted(m): how many publications were accepted from the message with this number
-abbrev pub accepted_count : List ℕ → ℕ → Limits → List Turn → ℕ
+abbrev pub accepted_count : List ℕ → ℕ → Capacity → List Turn → ℕ
 accepted_count client n limits ts = count_by (nat_eq n) (accepted_over client limits ts start)
 
 -- ---- what was accepted, with the state in which it was
@@ -194,7 +194,7 @@ the_acceptances = record {
   opened = acceptances_opened;
 }
 
-abbrev pub acceptances_over : Limits → List Turn → World → List Acceptance
+abbrev pub acceptances_over : Capacity → List Turn → World → List Acceptance
 acceptances_over limits ts w = read_over the_acceptances limits ts w
 
 -- what was accepted from the messages of a publisher: each with its message's number
@@ -213,7 +213,7 @@ abbrev pub each_from : Option ℕ → List Deed → List From
 each_from None ds = []
 each_from (Some n) ds = map (from_message n) (filter_map client_message ds)
 
-abbrev pub from_over : List ℕ → Limits → List Turn → World → List From
+abbrev pub from_over : List ℕ → Capacity → List Turn → World → List From
 from_over client limits [] w = []
 from_over client limits (t ∷ ts) w =
     each_from (message_read client t.event w) (deeds_at (setting limits t) t.event w)
@@ -237,10 +237,10 @@ ended_in (At who (Leave e ending)) =
     Some (record { client = who.client; copy = e.copy.id; qos = e.copy.qos; by = ending })
 ended_in d = None
 
-abbrev pub entered_over : Limits → List Turn → List CopyId
+abbrev pub entered_over : Capacity → List Turn → List CopyId
 entered_over limits ts = filter_map entered_in (deeds_over limits ts start)
 
-abbrev pub ended_over : Limits → List Turn → List End
+abbrev pub ended_over : Capacity → List Turn → List End
 ended_over limits ts = filter_map ended_in (deeds_over limits ts start)
 
 -- ---- runs in which ends begin clean: an end is made where no session of its name stands; and a Clean Start is carried
@@ -269,7 +269,7 @@ begins_clean (connect_end client clean) w = clean || not (waits_clean client w)
 begins_clean (give_up client) w = not (is_asked (link_of client w) && waits_clean client w)
 begins_clean e w = true
 
-abbrev pub are_beginnings_clean : Limits → List Turn → World → Bool
+abbrev pub are_beginnings_clean : Capacity → List Turn → World → Bool
 are_beginnings_clean limits [] w = true
 are_beginnings_clean limits (t ∷ ts) w =
     begins_clean t.event w && are_beginnings_clean limits ts (turned limits t w)

@@ -7,7 +7,7 @@ use Rattle.mqtt_topic.specs.names.Names.{is_empty}
 use Rattle.mqtt_flow.specs.inbound.Line.{asked, live}
 use Rattle.mqtt_flow.specs.inbound.Publisher.{CONNECT, in_flight}
 use Rattle.mqtt_flow.specs.inbound.InboundWorld.{Event as HopEvent, run}
-use Rattle.mqtt_rules.specs.declared.step.Limits.{Limits}
+use Rattle.mqtt_rules.specs.declared.step.Capacity.{Capacity}
 use Rattle.mqtt_rules.specs.step.State.{Line as BrokerLine, Broker, session_named}
 use Rattle.mqtt_rules.specs.step.Step.{Call, NewLine, Input, BadInput, Lost, Pump, Tick}
 use Rattle.mqtt_world_model.specs.model.Lines.{Line}
@@ -97,11 +97,11 @@ IsSettled p = p.line.link ≡ live → (p.unsent ≡ []) ⊎ IsFull p
 
 -- if a session of this client stands, the table of sessions is within its limit: its session began where there was a place,
 -- and a table above its limit, stored under a larger one, only shrinks
-abbrev pub HasPlace : Limits → List ℕ → Records → Type 0
+abbrev pub HasPlace : Capacity → List ℕ → Records → Type 0
 HasPlace limits client r = is_some (session_named client r) ≡ true → length r.sessions ≤ limits.sessions
 
 -- of the broker: sessions and lines are in order, and this client's session has a place
-pub record IsSound (limits : Limits) (client : List ℕ) (b : Broker) : Type 0 where
+pub record IsSound (limits : Capacity) (client : List ℕ) (b : Broker) : Type 0 where
   pub order : IsInOrder b
   pub place : HasPlace limits client b.records
   pub within : limits.sessions ≤ SESSION_LIMIT

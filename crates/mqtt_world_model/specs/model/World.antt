@@ -19,7 +19,7 @@ use Rattle.mqtt_flow.specs.inbound.Line.{Link, away, asked, live}
 use Rattle.mqtt_flow.specs.inbound.Publisher.{CONNECT}
 use Rattle.mqtt_flow.specs.outbound.Receiver.{connect}
 use Rattle.mqtt_records.specs.state.Records.{nothing}
-use Rattle.mqtt_rules.specs.declared.step.Limits.{Limits}
+use Rattle.mqtt_rules.specs.declared.step.Capacity.{Capacity}
 use Rattle.mqtt_rules.specs.step.State.{Broker, MemberChoice, later}
 use Rattle.mqtt_rules.specs.step.Piece.{Front, first_call}
 use Rattle.mqtt_rules.specs.step.Step.{Call, NewLine, Input, Lost, Pump, Tick, can_link, stepped, Outcome, told, unopened}
@@ -80,7 +80,7 @@ with_line client f g w =
 -- ---- a step of the broker
 
 pub record Setting : Type 0 where
-  pub limits : Limits
+  pub limits : Capacity
   pub choice : MemberChoice  -- the members of groups that the broker chooses
 
 abbrev pub publisher_told : Broker → Outcome → Publisher → Publisher
@@ -204,7 +204,7 @@ held_after bytes = held_by (first_of bytes) bytes
 abbrev pub linked_at : Setting → Bool → List ℕ → List ℕ → World → World
 linked_at set true name bytes w = with_stranger name (λ s. record s { held = s.held ++ bytes }) w
 linked_at set false name bytes w =
-    let number = cond (can_link w.broker) (Some (suc w.broker.given)) None in
+    let number = cond (can_link set.limits w.broker) (Some (suc w.broker.given)) None in
     let s : Stranger = record { name = name; number = number; held = bytes } in
     record (calls set NewLine w) { strangers = w.strangers ++ s ∷ [] }
 
@@ -276,8 +276,8 @@ links set (Some n) client clean w =
     (with_receiver client (λ r. record r { line = joined (answers (connect clean)) n clean r.line })
     (calls set NewLine w))
 
-abbrev pub next_line : Broker → Option ℕ
-next_line b = cond (can_link b) (Some (suc b.given)) None
+abbrev pub next_line : Capacity → Broker → Option ℕ
+next_line limits b = cond (can_link limits b) (Some (suc b.given)) None
 
 -- its line stands at the broker
 abbrev pub is_open_line : {U : Type 0} → Line U → World → Bool
@@ -298,7 +298,7 @@ abbrev pub happens : Setting → Event → World → World
 happens set (publisher client) w = record w { publishers = w.publishers ++ new_publisher client ∷ [] }
 happens set (receiver client window aliases) w =
     record w { receivers = w.receivers ++ new_receiver client window aliases w.broker.records.births ∷ [] }
-happens set (connect_end client clean) w = links set (next_line w.broker) client clean w
+happens set (connect_end client clean) w = links set (next_line set.limits w.broker) client clean w
 happens set (give_up client) w = with_line client (λ l. gives_up l.link l) (λ l. gives_up l.link l) w
 happens set (publish client d) w = with_publisher client (λ p. published (is_open_line p.line w) d p) w
 happens set (subscribe client x) w = with_receiver client (λ r. asks_wish (is_open_line r.line w) x r) w

@@ -7,7 +7,7 @@ ghost use Rattle.mqtt_flow.specs.inbound.Publisher.{PUBLISH_1, PUBLISH_2, PUBREL
 ghost use Rattle.mqtt_flow.specs.inbound.InboundWorld.{Event as HopEvent, takes, to_broker, old_to_broker, publish, give_up};
 ghost use Rattle.mqtt_flow.specs.inbound.InboundWorld.{break, connect, restart, step, run};
 ghost use Rattle.mqtt_records.specs.declared.state.session.Session.{Session};
-ghost use Rattle.mqtt_rules.specs.declared.step.Limits.{Limits};
+ghost use Rattle.mqtt_rules.specs.declared.step.Capacity.{Capacity};
 ghost use Rattle.mqtt_rules.specs.step.State.{Line, Broker, MemberChoice, session_at, session_named};
 ghost use Rattle.mqtt_rules.specs.step.Step.{Call, NewLine, Input, Lost, opened, stepped, told};
 ghost use Rattle.mqtt_world_model.specs.model.Lines.{gives_up};
@@ -25,35 +25,35 @@ ghost use Rattle.mqtt_records.specs.state.Session.{auto};
 /// and all other sessions and lines, what the publisher sees of it is one event of its hop (4.3.3, 4.4).
 pub fn own_packets_are_steps_of_the_hop()
     // PUBLISH of QoS 2: new and accepted, or refused; again; above the Receive Maximum; without a topic.
-    ensures publish { (limits : Limits) (choice : MemberChoice) (now : ℕ) (p : Publisher) (rest : List Sent)
+    ensures publish { (limits : Capacity) (choice : MemberChoice) (now : ℕ) (p : Publisher) (rest : List Sent)
         → (id k : ℕ) (dup : Bool) (l : Line) (s : Session) (b : Broker) (accepted : List ℕ)
         → p.line.up ≡ shake (PUBLISH_2 id k dup) ∷ rest → IsConnected p l s b
         → (e : HopEvent) × Becomes limits choice now (Input l.number (wire_2 p id k dup)) k p b accepted e }
-    ensures release { (limits : Limits) (choice : MemberChoice) (now : ℕ) (p : Publisher) (rest : List Sent)
+    ensures release { (limits : Capacity) (choice : MemberChoice) (now : ℕ) (p : Publisher) (rest : List Sent)
         → (id k : ℕ) (l : Line) (s : Session) (b : Broker) (accepted : List ℕ)
         → p.line.up ≡ shake (PUBREL id) ∷ rest → IsConnected p l s b
         → Becomes limits choice now (Input l.number (wire p.client p.contents (shake (PUBREL id)))) k p b accepted
         (to_broker takes) }
 
     // PUBLISH of QoS 1, with the same outcomes; one of QoS 0 is no event, unless its topic closes the line.
-    ensures publish_once { (limits : Limits) (choice : MemberChoice) (now : ℕ) (p : Publisher) (rest : List Sent)
+    ensures publish_once { (limits : Capacity) (choice : MemberChoice) (now : ℕ) (p : Publisher) (rest : List Sent)
         → (id k : ℕ) (dup : Bool) (l : Line) (s : Session) (b : Broker) (accepted : List ℕ)
         → p.line.up ≡ shake (PUBLISH_1 id k dup) ∷ rest → IsConnected p l s b
         → (e : HopEvent) × Becomes limits choice now (Input l.number (wire_1 p id k dup)) k p b accepted e }
-    ensures publish_plain { (limits : Limits) (choice : MemberChoice) (now : ℕ) (p : Publisher) (rest : List Sent)
+    ensures publish_plain { (limits : Capacity) (choice : MemberChoice) (now : ℕ) (p : Publisher) (rest : List Sent)
         → (content : Content) (l : Line) (s : Session) (b : Broker) (accepted : List ℕ)
         → p.line.up ≡ plain content ∷ rest → IsConnected p l s b
         → IsUnheard limits choice now (Input l.number (wire p.client p.contents (plain content))) p b accepted }
 
     // After each of these the session and the line are still its own.
-    ensures stays { (limits : Limits) (choice : MemberChoice) (now : ℕ) (p : Publisher) (packet : Sent)
+    ensures stays { (limits : Capacity) (choice : MemberChoice) (now : ℕ) (p : Publisher) (packet : Sent)
         → (l : Line) (s : Session) (b : Broker)
         → IsNoConnect packet → IsConnected p l s b → Own p.client s.birth l.number b
         → Own p.client s.birth l.number
         (stepped limits choice now (Input l.number (wire p.client p.contents packet)) b) }
 
     // CONNECT without Clean Start while its session stands, which may be connected on the line given up.
-    ensures connect { (limits : Limits) (choice : MemberChoice) (now : ℕ) (p : Publisher) (rest : List Sent)
+    ensures connect { (limits : Capacity) (choice : MemberChoice) (now : ℕ) (p : Publisher) (rest : List Sent)
         → (l : Line) (s : Session) (b : Broker) (accepted : List ℕ)
         → p.line.up ≡ shake (CONNECT false) ∷ rest → IsAsking p l s b
         → seen accepted (after_step limits choice now (Input l.number (hello_packet p)) p b)
@@ -61,7 +61,7 @@ pub fn own_packets_are_steps_of_the_hop()
         ≡ step (seen accepted p b) (to_broker takes) }
 
     // CONNECT with Clean Start while its session stands: it ends, with all that it has, and a new one begins.
-    ensures anew { (limits : Limits) (choice : MemberChoice) (now : ℕ) (p : Publisher) (rest : List Sent)
+    ensures anew { (limits : Capacity) (choice : MemberChoice) (now : ℕ) (p : Publisher) (rest : List Sent)
         → (l : Line) (s : Session) (b : Broker) (accepted : List ℕ)
         → p.line.up ≡ shake (CONNECT true) ∷ rest → IsAsking p l s b → MayBegin limits p.client b
         → seen accepted (after_step limits choice now (Input l.number (connect_packet true p)) p b)
@@ -69,7 +69,7 @@ pub fn own_packets_are_steps_of_the_hop()
         ≡ step (seen accepted p b) (to_broker takes) }
 
     // CONNECT, with or without Clean Start, if no session of its name stands: one begins, or the table is full.
-    ensures first { (limits : Limits) (choice : MemberChoice) (now : ℕ) (clean : Bool) (p : Publisher)
+    ensures first { (limits : Capacity) (choice : MemberChoice) (now : ℕ) (clean : Bool) (p : Publisher)
         → (l : Line) (b : Broker) (accepted : List ℕ)
         → p.line.up ≡ shake (CONNECT clean) ∷ [] → IsFirst limits p l b
         → (e : HopEvent)
@@ -78,7 +78,7 @@ pub fn own_packets_are_steps_of_the_hop()
         ≡ step (seen accepted p b) e) }
 
     // The line is lost on both sides.
-    ensures lost { (limits : Limits) (choice : MemberChoice) (now : ℕ) (p : Publisher) (l : Line) (s : Session)
+    ensures lost { (limits : Capacity) (choice : MemberChoice) (now : ℕ) (p : Publisher) (l : Line) (s : Session)
         → (b : Broker) (accepted : List ℕ) → IsConnected p l s b
         → seen accepted (lost_by limits choice now l.number p b)
         (stepped limits choice now (Lost l.number) b)
@@ -88,26 +88,26 @@ pub fn own_packets_are_steps_of_the_hop()
 /// The broker reads what a publisher left on the line that it gave up, if its session is connected still,
 /// or a late CONNECT: what the publisher sees of it is that event of its hop, and no answer (3.1.4, 4.3, 4.4).
 pub fn packets_of_the_line_given_up_are_steps_of_the_hop()
-    ensures publish { (limits : Limits) (choice : MemberChoice) (now : ℕ) (p : Publisher) (rest : List Sent)
+    ensures publish { (limits : Capacity) (choice : MemberChoice) (now : ℕ) (p : Publisher) (rest : List Sent)
         → (id k : ℕ) (dup : Bool) (l : Line) (s : Session) (b : Broker) (accepted : List ℕ)
         → p.line.old ≡ shake (PUBLISH_2 id k dup) ∷ rest → IsLingering p l s b
         → (e : HopEvent) × BecomesOld limits choice now (Input l.number (wire_2 p id k dup)) k p b accepted e }
-    ensures release { (limits : Limits) (choice : MemberChoice) (now : ℕ) (p : Publisher) (rest : List Sent)
+    ensures release { (limits : Capacity) (choice : MemberChoice) (now : ℕ) (p : Publisher) (rest : List Sent)
         → (id k : ℕ) (l : Line) (s : Session) (b : Broker) (accepted : List ℕ)
         → p.line.old ≡ shake (PUBREL id) ∷ rest → IsLingering p l s b
         → BecomesOld limits choice now (Input l.number (wire p.client p.contents (shake (PUBREL id)))) k p b accepted
         (old_to_broker takes) }
-    ensures publish_once { (limits : Limits) (choice : MemberChoice) (now : ℕ) (p : Publisher) (rest : List Sent)
+    ensures publish_once { (limits : Capacity) (choice : MemberChoice) (now : ℕ) (p : Publisher) (rest : List Sent)
         → (id k : ℕ) (dup : Bool) (l : Line) (s : Session) (b : Broker) (accepted : List ℕ)
         → p.line.old ≡ shake (PUBLISH_1 id k dup) ∷ rest → IsLingering p l s b
         → (e : HopEvent) × BecomesOld limits choice now (Input l.number (wire_1 p id k dup)) k p b accepted e }
-    ensures publish_plain { (limits : Limits) (choice : MemberChoice) (now : ℕ) (p : Publisher) (rest : List Sent)
+    ensures publish_plain { (limits : Capacity) (choice : MemberChoice) (now : ℕ) (p : Publisher) (rest : List Sent)
         → (content : Content) (l : Line) (s : Session) (b : Broker) (accepted : List ℕ)
         → p.line.old ≡ plain content ∷ rest → IsLingering p l s b
         → IsUnheardOld limits choice now (Input l.number (wire p.client p.contents (plain content))) p b accepted }
 
     // A late CONNECT without Clean Start takes its session over, from its own line if it is connected there.
-    ensures connect { (limits : Limits) (choice : MemberChoice) (now : ℕ) (p : Publisher) (rest : List Sent)
+    ensures connect { (limits : Capacity) (choice : MemberChoice) (now : ℕ) (p : Publisher) (rest : List Sent)
         → (l : Line) (s : Session) (b : Broker) (accepted : List ℕ)
         → p.line.old ≡ shake (CONNECT false) ∷ rest → IsLate p l s b
         → seen accepted (after_old_step limits choice now (Input l.number (hello_packet p)) p b)
@@ -118,22 +118,22 @@ pub fn packets_of_the_line_given_up_are_steps_of_the_hop()
 /// After a publisher's CONNECT the session and its line are its own, and after the loss of its line the
 /// session is, if sessions and lines are in order, which they are after each step (3.1.2.4, 3.1.4).
 pub fn a_connected_session_is_its_own()
-    ensures resumed { (limits : Limits) (choice : MemberChoice) (now : ℕ) (p : Publisher) (l : Line) (s : Session)
+    ensures resumed { (limits : Capacity) (choice : MemberChoice) (now : ℕ) (p : Publisher) (l : Line) (s : Session)
         → (b : Broker) → IsAsking p l s b → l.keep_alive ≡ 0 → IsInOrder b
         → IsInOrder (stepped limits choice now (Input l.number (hello_packet p)) b)
         → Own p.client s.birth l.number (stepped limits choice now (Input l.number (hello_packet p)) b) }
-    ensures anew { (limits : Limits) (choice : MemberChoice) (now : ℕ) (p : Publisher) (l : Line) (s : Session)
+    ensures anew { (limits : Capacity) (choice : MemberChoice) (now : ℕ) (p : Publisher) (l : Line) (s : Session)
         → (b : Broker) → IsAsking p l s b → MayBegin limits p.client b → l.keep_alive ≡ 0 → IsInOrder b
         → IsInOrder (stepped limits choice now (Input l.number (connect_packet true p)) b)
         → (birth : ℕ)
         × Own p.client birth l.number (stepped limits choice now (Input l.number (connect_packet true p)) b) }
-    ensures first { (limits : Limits) (choice : MemberChoice) (now : ℕ) (clean : Bool) (p : Publisher) (l : Line)
+    ensures first { (limits : Capacity) (choice : MemberChoice) (now : ℕ) (clean : Bool) (p : Publisher) (l : Line)
         → (b : Broker) → IsFirst limits p l b → nat_lt (length b.records.sessions) limits.sessions ≡ true
         → l.keep_alive ≡ 0 → IsInOrder b
         → IsInOrder (stepped limits choice now (Input l.number (connect_packet clean p)) b)
         → Own p.client (suc b.records.births) l.number
         (stepped limits choice now (Input l.number (connect_packet clean p)) b) }
-    ensures lost { (limits : Limits) (choice : MemberChoice) (now : ℕ) (p : Publisher) (l : Line) (s : Session)
+    ensures lost { (limits : Capacity) (choice : MemberChoice) (now : ℕ) (p : Publisher) (l : Line) (s : Session)
         → (b : Broker) → IsConnected p l s b → Own p.client s.birth l.number b
         → Own p.client s.birth l.number (stepped limits choice now (Lost l.number) b) }
 {}
@@ -141,16 +141,16 @@ pub fn a_connected_session_is_its_own()
 /// The broker restarts while the publisher's session stands, connected or not, or while it has none: whatever
 /// Wills are due and sessions end, the publisher sees that one event of its hop (4.1).
 pub fn a_restart_is_a_step_of_the_hop()
-    ensures restarts { (limits : Limits) (choice : MemberChoice) (now : ℕ) (p : Publisher) (s : Session) (b : Broker)
+    ensures restarts { (limits : Capacity) (choice : MemberChoice) (now : ℕ) (p : Publisher) (s : Session) (b : Broker)
         → (accepted : List ℕ) → IsKept p.client s b
         → AllByRecursion (IsOurs p.client s.birth) b.records.sessions → s.birth ≤ b.records.births
         → seen accepted (publisher_restarted p) (opened limits choice now b.records)
         ≡ step (seen accepted p b) restart }
-    ensures own { (limits : Limits) (choice : MemberChoice) (now : ℕ) (client : List ℕ) (s : Session) (b : Broker)
+    ensures own { (limits : Capacity) (choice : MemberChoice) (now : ℕ) (client : List ℕ) (s : Session) (b : Broker)
         → IsKept client s b
         → AllByRecursion (IsOurs client s.birth) b.records.sessions → s.birth ≤ b.records.births
         → Own client s.birth 0 (opened limits choice now b.records) }
-    ensures without { (limits : Limits) (choice : MemberChoice) (now : ℕ) (p : Publisher) (b : Broker)
+    ensures without { (limits : Capacity) (choice : MemberChoice) (now : ℕ) (p : Publisher) (b : Broker)
         → (accepted : List ℕ) → session_named p.client b.records ≡ None
         → seen accepted (publisher_restarted p) (opened limits choice now b.records)
         ≡ step (seen accepted p b) restart }
@@ -160,7 +160,7 @@ pub fn a_restart_is_a_step_of_the_hop()
 /// any tick: the publisher whose session is connected sees nothing of it, but that the line which it gave
 /// up may be closed; and the session and the line stay its own (3.1.4, 4.1).
 pub fn steps_of_others_are_unseen()
-    ensures unseen { (limits : Limits) (choice : MemberChoice) (now : ℕ) (call : Call) (p : Publisher) (l : Line)
+    ensures unseen { (limits : Capacity) (choice : MemberChoice) (now : ℕ) (call : Call) (p : Publisher) (l : Line)
         → (s : Session) (b : Broker) (accepted : List ℕ)
         → IsConnected p l s b → Own p.client s.birth l.number b
         → starts_with nat_eq p.client auto ≡ false → IsFarCall p.client l.number call
@@ -169,7 +169,7 @@ pub fn steps_of_others_are_unseen()
         (stepped limits choice now call b) ≡ run es (seen accepted p b)) }
 
     // The same while it has no line, and its session is connected on the line that it gave up, or nowhere.
-    ensures unseen_away { (limits : Limits) (choice : MemberChoice) (now : ℕ) (call : Call) (p : Publisher) (n : ℕ)
+    ensures unseen_away { (limits : Capacity) (choice : MemberChoice) (now : ℕ) (call : Call) (p : Publisher) (n : ℕ)
         → (s : Session) (b : Broker) (accepted : List ℕ)
         → p.line.number ≡ None → IsKept p.client s b → Own p.client s.birth n b → IsFarCall p.client n call
         → (es : List HopEvent)
@@ -177,7 +177,7 @@ pub fn steps_of_others_are_unseen()
         (stepped limits choice now call b) ≡ run es (seen accepted p b)) }
 
     // And while it has neither: the birth is one that no session has, and none has it after the call.
-    ensures unseen_without { (limits : Limits) (choice : MemberChoice) (now : ℕ) (call : Call) (p : Publisher)
+    ensures unseen_without { (limits : Capacity) (choice : MemberChoice) (now : ℕ) (call : Call) (p : Publisher)
         → (birth n : ℕ) (b : Broker) (accepted : List ℕ)
         → p.line.number ≡ None → session_at birth b.records ≡ None → Own p.client birth n b
         → starts_with nat_eq p.client auto ≡ false → IsFarCall p.client n call
@@ -185,7 +185,7 @@ pub fn steps_of_others_are_unseen()
         × ((es : List HopEvent)
         × (seen accepted (publisher_told (stepped limits choice now call b) (told limits choice now call b) p)
         (stepped limits choice now call b) ≡ run es (seen accepted p b))) }
-    ensures own { (limits : Limits) (choice : MemberChoice) (now : ℕ) (call : Call) (client : List ℕ) (birth n : ℕ)
+    ensures own { (limits : Capacity) (choice : MemberChoice) (now : ℕ) (call : Call) (client : List ℕ) (birth n : ℕ)
         → (b : Broker) → Own client birth n b
         → starts_with nat_eq client auto ≡ false → IsFarCall client n call
         → Own client birth n (stepped limits choice now call b) }
@@ -217,8 +217,8 @@ pub fn own_doings_are_steps_of_the_hop()
         → MayGiveUp p.line.link p.line.clean
         → seen accepted (record p { line = gives_up p.line.link p.line }) b
         ≡ step (seen accepted p b) give_up }
-    ensures joins { (limits : Limits) (choice : MemberChoice) (now : ℕ) (clean : Bool) (p : Publisher) (b : Broker)
-        → (accepted : List ℕ) → MayJoin clean p b
+    ensures joins { (limits : Capacity) (choice : MemberChoice) (now : ℕ) (clean : Bool) (p : Publisher) (b : Broker)
+        → (accepted : List ℕ) → MayJoin limits clean p b
         → seen accepted (joined_by limits choice now clean p b) (stepped limits choice now NewLine b)
         ≡ step (seen accepted p b) (connect clean) }
     ensures reads { (accepted : List ℕ) (b : Broker) (t : Bool) (p : Publisher) → is_linked p.line.number b ≡ t

@@ -2,7 +2,7 @@
 //! of its hop, after which it is somewhere again (4.3, 4.4).
 ghost use Rattle.std.specs.Prelude.{◌≡◌, ℕ, ◌∷◌, ◌++◌, Bool, List, Option, None, Some};
 ghost use Rattle.mqtt_records.specs.declared.state.records.Records.{Records};
-ghost use Rattle.mqtt_rules.specs.declared.step.Limits.{Limits};
+ghost use Rattle.mqtt_rules.specs.declared.step.Capacity.{Capacity};
 ghost use Rattle.mqtt_rules.specs.step.State.{Broker, MemberChoice, session_named, stored};
 ghost use Rattle.mqtt_rules.specs.step.Step.{Call, NewLine, Input, Lost, deeds, opened, stepped, told};
 ghost use Rattle.mqtt_world_model.specs.model.Lines.{gives_up, stands};
@@ -18,7 +18,7 @@ ghost use Rattle.mqtt_world_model.specs.model.Seats.{Comes, Does, HasPlace, IsAp
 /// the messages that it accepts, and the publisher is somewhere again (3.1.2.4, 3.1.4, 4.1, 4.3).
 pub fn every_call_is_some_steps_of_the_hop()
     // A call on none of its lines, and no CONNECT of its client, but any pump.
-    ensures others { (limits : Limits) (choice : MemberChoice) (now : ℕ) (call : Call) (o : Option ℕ) (k : ℕ)
+    ensures others { (limits : Capacity) (choice : MemberChoice) (now : ℕ) (call : Call) (o : Option ℕ) (k : ℕ)
         → (p : Publisher) (b : Broker) (accepted : List ℕ)
         → Seat o k p b → IsNamed p.client → IsFarCall p.client k call
         → IsOff p.line.number call → IsOff p.line.old_number call
@@ -26,7 +26,7 @@ pub fn every_call_is_some_steps_of_the_hop()
         (stepped limits choice now call b) accepted accepted }
 
     // The first packet of its line, also the CONNECT that the line waits for, and of the line that it gave up.
-    ensures reads { (limits : Limits) (choice : MemberChoice) (now n : ℕ) (o : Option ℕ) (k : ℕ) (packet : Sent)
+    ensures reads { (limits : Capacity) (choice : MemberChoice) (now n : ℕ) (o : Option ℕ) (k : ℕ) (packet : Sent)
         → (rest : List Sent) (p : Publisher) (b : Broker) (accepted : List ℕ)
         → Seat o k p b → IsNamed p.client → IsSound limits p.client b
         → IsInOrder (stepped limits choice now (Input n (wire p.client p.contents packet)) b)
@@ -36,7 +36,7 @@ pub fn every_call_is_some_steps_of_the_hop()
         (stepped limits choice now (Input n (wire p.client p.contents packet)) b) accepted
         (accepted
         ++ each_of (message_in packet) (deeds limits choice now (Input n (wire p.client p.contents packet)) b)) }
-    ensures reads_old { (limits : Limits) (choice : MemberChoice) (now n : ℕ) (o : Option ℕ) (k : ℕ) (packet : Sent)
+    ensures reads_old { (limits : Capacity) (choice : MemberChoice) (now n : ℕ) (o : Option ℕ) (k : ℕ) (packet : Sent)
         → (rest : List Sent) (p : Publisher) (b : Broker) (accepted : List ℕ)
         → Seat o k p b → IsNamed p.client → IsSound limits p.client b
         → IsInOrder (stepped limits choice now (Input n (wire p.client p.contents packet)) b)
@@ -48,11 +48,11 @@ pub fn every_call_is_some_steps_of_the_hop()
         ++ each_of (message_in packet) (deeds limits choice now (Input n (wire p.client p.contents packet)) b)) }
 
     // The loss of its line, and a restart of the broker.
-    ensures loses { (limits : Limits) (choice : MemberChoice) (now n : ℕ) (o : Option ℕ) (k : ℕ) (p : Publisher)
+    ensures loses { (limits : Capacity) (choice : MemberChoice) (now n : ℕ) (o : Option ℕ) (k : ℕ) (p : Publisher)
         → (b : Broker) (accepted : List ℕ)
         → Seat o k p b → IsNamed p.client → IsApart p.line.number p.line.old_number → p.line.number ≡ Some n
         → Comes k p (lost_by limits choice now n p b) b (stepped limits choice now (Lost n) b) accepted accepted }
-    ensures restarts { (limits : Limits) (choice : MemberChoice) (now : ℕ) (o : Option ℕ) (k : ℕ) (p : Publisher)
+    ensures restarts { (limits : Capacity) (choice : MemberChoice) (now : ℕ) (o : Option ℕ) (k : ℕ) (p : Publisher)
         → (b : Broker) (accepted : List ℕ) → IsHis p.client o k b → IsNamed p.client
         → Comes 0 p (publisher_restarted p) b (opened limits choice now b.records) accepted accepted }
 {}
@@ -69,9 +69,9 @@ pub fn every_doing_is_some_steps_of_the_hop()
     ensures gives_up { (o : Option ℕ) (k : ℕ) (p : Publisher) (b : Broker) (accepted : List ℕ)
         → Seat o k p b → IsSettled p → IsRun accepted p b → MayGiveUp p.line.link p.line.clean
         → Does o k p (record p { line = gives_up p.line.link p.line }) b accepted }
-    ensures joins { (limits : Limits) (choice : MemberChoice) (now : ℕ) (clean : Bool) (o : Option ℕ) (k : ℕ)
+    ensures joins { (limits : Capacity) (choice : MemberChoice) (now : ℕ) (clean : Bool) (o : Option ℕ) (k : ℕ)
         → (p : Publisher) (b : Broker) (accepted : List ℕ)
-        → Seat o k p b → IsNamed p.client → MayJoin clean p b
+        → Seat o k p b → IsNamed p.client → MayJoin limits clean p b
         → Comes k p (joined_by limits choice now clean p b) b (stepped limits choice now NewLine b)
         accepted accepted }
 {}
@@ -79,12 +79,12 @@ pub fn every_doing_is_some_steps_of_the_hop()
 /// A session begins only if there is a place, so while it stands the table of sessions is within its limit: one that was
 /// stored under a larger limit only shrinks until it is within this one (3.1.4, 3.2.2.2, ours).
 pub fn a_session_that_began_has_a_place()
-    ensures steps { (limits : Limits) (choice : MemberChoice) (now : ℕ) (call : Call) (client : List ℕ) (b : Broker)
+    ensures steps { (limits : Capacity) (choice : MemberChoice) (now : ℕ) (call : Call) (client : List ℕ) (b : Broker)
         → HasPlace limits client (stored b) → HasPlace limits client (stored (stepped limits choice now call b)) }
-    ensures opens { (limits : Limits) (choice : MemberChoice) (now : ℕ) (client : List ℕ) (r : Records)
+    ensures opens { (limits : Capacity) (choice : MemberChoice) (now : ℕ) (client : List ℕ) (r : Records)
         → HasPlace limits client r → HasPlace limits client (stored (opened limits choice now r)) }
 
     // Of a client of which no session stands nothing is asked yet.
-    ensures begins { (limits : Limits) (client : List ℕ) (r : Records)
+    ensures begins { (limits : Capacity) (client : List ℕ) (r : Records)
         → session_named client r ≡ None → HasPlace limits client r }
 {}

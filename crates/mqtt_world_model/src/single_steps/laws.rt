@@ -2,7 +2,7 @@
 ghost use Rattle.std.specs.Prelude.{◌≡◌, ℕ, false, List, ◌++◌, map};
 ghost use Rattle.mqtt_world_model.specs.model.Run.{run, turned};
 ghost use Rattle.mqtt_world_model.specs.model.World.{Asking, Event, Setting, World, ask, is_bad, restart, start, step, stop_after, stranger};
-ghost use Rattle.mqtt_rules.specs.declared.step.Limits.{Limits};
+ghost use Rattle.mqtt_rules.specs.declared.step.Capacity.{Capacity};
 ghost use Rattle.mqtt_rules.specs.step.State.{MemberChoice};
 ghost use Rattle.mqtt_world_model.specs.single_steps.Unrolled.{AreAlike, AreAllAlike, HoldNoPacket, IsDecided, IsOneStep, IsWhole, Unrolls};
 ghost use Rattle.mqtt_world_model.specs.single_steps.Unrolled.{bytes_come, turn};
@@ -32,7 +32,7 @@ pub fn a_stop_after_is_a_step_and_a_restart()
 /// alike in all of them. So who tells a run by events of one step, each with a choice of its own, tells no more
 /// than what events may do.
 pub fn an_event_is_its_steps()
-    ensures is { (limits : Limits) (choice : MemberChoice) (e : Event) (es : List Event) (w : World)
+    ensures is { (limits : Capacity) (choice : MemberChoice) (e : Event) (es : List Event) (w : World)
         → AreAllAlike w → is_bad e w ≡ false → Unrolls e w es
         → run limits (map (turn choice) es) w ≡ turned limits (turn choice e) w }
 {}

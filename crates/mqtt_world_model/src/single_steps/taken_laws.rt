@@ -3,7 +3,7 @@ ghost use Rattle.std.specs.Prelude.{◌≡◌, List, []};
 ghost use Rattle.std.specs.List.{AllByRecursion};
 ghost use Rattle.mqtt_world_model.specs.model.Run.{Turn, run, turned};
 ghost use Rattle.mqtt_world_model.specs.model.World.{World};
-ghost use Rattle.mqtt_rules.specs.declared.step.Limits.{Limits};
+ghost use Rattle.mqtt_rules.specs.declared.step.Capacity.{Capacity};
 ghost use Rattle.mqtt_world_model.specs.single_steps.Sound.{AreSound};
 ghost use Rattle.mqtt_world_model.specs.single_steps.Taken.{IsTakenFrom, IsTakenFromReceiver};
 
@@ -12,9 +12,9 @@ ghost use Rattle.mqtt_world_model.specs.single_steps.Taken.{IsTakenFrom, IsTaken
 /// the events: one that brings no text is bad, and does nothing. Of an answer of a receiver is asked that its packet
 /// identifier is one, which is that of the broker's packet that it answers (1.5.4, 2.2.1, 3.1, 3.3, 3.8).
 pub fn packets_of_ends_are_taken()
-    ensures publishers { (limits : Limits) (ts : List Turn) (w : World) → w.publishers ≡ [] → w.receivers ≡ []
+    ensures publishers { (limits : Capacity) (ts : List Turn) (w : World) → w.publishers ≡ [] → w.receivers ≡ []
         → AllByRecursion IsTakenFrom (run limits ts w).publishers }
-    ensures receivers { (limits : Limits) (ts : List Turn) (w : World) → w.publishers ≡ [] → w.receivers ≡ []
+    ensures receivers { (limits : Capacity) (ts : List Turn) (w : World) → w.publishers ≡ [] → w.receivers ≡ []
         → AllByRecursion IsTakenFromReceiver (run limits ts w).receivers }
 {}
 
@@ -22,7 +22,7 @@ pub fn packets_of_ends_are_taken()
 /// (2.2.1, 4.3, 4.4).
 pub fn ends_stay_sound()
     ensures begins { (w : World) → w.publishers ≡ [] → w.receivers ≡ [] → AreSound w }
-    ensures stays { (limits : Limits) (t : Turn) (w : World) → AreSound w → AreSound (turned limits t w) }
+    ensures stays { (limits : Capacity) (t : Turn) (w : World) → AreSound w → AreSound (turned limits t w) }
     ensures publishers { (w : World) → AreSound w → AllByRecursion IsTakenFrom w.publishers }
     ensures receivers { (w : World) → AreSound w → AllByRecursion IsTakenFromReceiver w.receivers }
 {}

@@ -205,7 +205,7 @@ pub record Law (env : Env) (about : About) (Keep : Broker → Type 0) (Good : De
   -- retained messages
   pub stale : (k : RetainedMessage) (b : Broker) → Keep b → IsAmong k b.records.retained → Leads Keep Good (Forget k.place ∷ []) b
   -- lines
-  pub links : (b : Broker) → Keep b → can_link b ≡ true → Leads Keep Good (Link (suc b.given) ∷ []) b
+  pub links : (b : Broker) → Keep b → can_link env.limits b ≡ true → Leads Keep Good (Link (suc b.given) ∷ []) b
   pub hears : (n : ℕ) (b : Broker) → Keep b → about.number n → Leads Keep Good (On n Hear ∷ []) b
   pub sets : (n alias : ℕ) (topic : List ℕ) (b : Broker) → Keep b → about.number n → IsSaid about topic → Leads Keep Good (On n (SetAlias alias topic) ∷ []) b
   pub sends : (n : ℕ) (packet : Packet) (b : Broker) → Keep b → about.number n → Leads Keep Good (Send n packet ∷ []) b
@@ -729,7 +729,7 @@ module _ (env : Env) (about : About) (Keep : Broker → Type 0) (Good : Deed →
 
   -- all deeds of a call lead
   pub leads_call : (call : Call) (b : Broker) → Keep b → IsCallOf about call b → Led (deeds_of env call b) b
-  leads_call NewLine b k its = leads_cond Keep Good (can_link b) (Link (suc b.given) ∷ []) [] b (λ t. law.links b k t) (λ t. (tt, k))
+  leads_call NewLine b k its = leads_cond Keep Good (can_link env.limits b) (Link (suc b.given) ∷ []) [] b (λ t. law.links b k t) (λ t. (tt, k))
   leads_call (Input n packet) b k its =
       leads_with_line Keep Good (line_at n b) (λ l. series (always (On n Hear ∷ []) ∷ on_packet env l packet l.session ∷ [])) b k
       (λ l e. let own = its.0 l e in

@@ -30,7 +30,7 @@ use Rattle.mqtt_records.specs.declared.state.session.Session.{Session}
 use Rattle.mqtt_records.specs.declared.state.records.Records.{Records}
 use Rattle.mqtt_records.specs.lists.Order.{row_at}
 use Rattle.mqtt_records.specs.state.Session.{copy_place}
-use Rattle.mqtt_rules.specs.declared.step.Limits.{Limits}
+use Rattle.mqtt_rules.specs.declared.step.Capacity.{Capacity}
 use Rattle.mqtt_records.specs.messages.PassedOn.{passed_on}
 use Rattle.mqtt_rules.specs.step.Packets.{publish_of}
 use Rattle.mqtt_rules.specs.step.State.{Line, Broker, Env, session_at, line_of, queue_on, MemberChoice}
@@ -336,7 +336,7 @@ module _ (sizes : Sizes) (are : AreSizes sizes) where
   stamped_lawful (row ∷ rows) b k = record { stored = record { sessions = k.stored.sessions; retained = k.stored.retained }; lines = k.lines }
 
   -- the deeds of a step, and those of an opening
-  step_leads : (limits : Limits) (choice : MemberChoice) (now : ℕ) (call : Call) (b : Broker) → TakesLawful call → AreContentsLawful b
+  step_leads : (limits : Capacity) (choice : MemberChoice) (now : ℕ) (call : Call) (b : Broker) → TakesLawful call → AreContentsLawful b
       → Leads AreContentsLawful Brings (deeds limits choice now call b) (at_moment now b)
   step_leads limits choice now call b taken h =
       let env = env_of limits choice b in
@@ -344,7 +344,7 @@ module _ (sizes : Sizes) (are : AreSizes sizes) where
       let k : AreContentsLawful c = record { stored = h.stored; lines = h.lines } in
       leads_call env topical AreContentsLawful Brings (content_law env) call c k (topical_call call c k taken)
 
-  opening_leads : (limits : Limits) (choice : MemberChoice) (now : ℕ) (r : Records) → HasLawfulContents r
+  opening_leads : (limits : Capacity) (choice : MemberChoice) (now : ℕ) (r : Records) → HasLawfulContents r
       → Leads AreContentsLawful Brings (opening_deeds limits choice now r) (unopened now r)
   opening_leads limits choice now r h =
       let c = unopened now r in
@@ -353,14 +353,14 @@ module _ (sizes : Sizes) (are : AreSizes sizes) where
       leads_opening env topical AreContentsLawful Brings (content_law env) (λ s b h is. led (At (whose s) (Close b.now) ∷ []) b h (tt, tt)) (λ birth. tt) c k
 
   -- a step with a lawful packet keeps contents lawful
-  pub step_contents : (limits : Limits) (choice : MemberChoice) (now : ℕ) (call : Call) (b : Broker) → TakesLawful call → AreContentsLawful b → AreContentsLawful (stepped limits choice now call b)
+  pub step_contents : (limits : Capacity) (choice : MemberChoice) (now : ℕ) (call : Call) (b : Broker) → TakesLawful call → AreContentsLawful b → AreContentsLawful (stepped limits choice now call b)
   step_contents limits choice now call b taken h =
       let c = at_moment now b in
       let ds = deeds limits choice now call b in
       stamped_lawful (rows_of_all ds c.records) (after_all ds c) (step_leads limits choice now call b taken h).1
 
   -- an opening keeps contents lawful
-  pub opening_contents : (limits : Limits) (choice : MemberChoice) (now : ℕ) (r : Records) → HasLawfulContents r → AreContentsLawful (opened limits choice now r)
+  pub opening_contents : (limits : Capacity) (choice : MemberChoice) (now : ℕ) (r : Records) → HasLawfulContents r → AreContentsLawful (opened limits choice now r)
   opening_contents limits choice now r h =
       let c = unopened now r in
       let ds = opening_deeds limits choice now r in
@@ -369,7 +369,7 @@ module _ (sizes : Sizes) (are : AreSizes sizes) where
   -- ---- what their rows bring
 
   -- the rows of a step with a lawful packet bring lawful contents
-  pub step_brings : (limits : Limits) (choice : MemberChoice) (now : ℕ) (call : Call) (b : Broker) → TakesLawful call → AreContentsLawful b
+  pub step_brings : (limits : Capacity) (choice : MemberChoice) (now : ℕ) (call : Call) (b : Broker) → TakesLawful call → AreContentsLawful b
       → rows.RowsBring sizes (rows_written (deeds limits choice now call b) (at_moment now b))
   step_brings limits choice now call b taken h =
       let c = at_moment now b in
@@ -377,7 +377,7 @@ module _ (sizes : Sizes) (are : AreSizes sizes) where
       rows.stamped_bring sizes c.now c.records.moment (rows_of_all ds c.records) (rows.written_bring sizes ds c (step_leads limits choice now call b taken h).0)
 
   -- the rows of an opening bring lawful contents
-  pub opening_brings : (limits : Limits) (choice : MemberChoice) (now : ℕ) (r : Records) → HasLawfulContents r
+  pub opening_brings : (limits : Capacity) (choice : MemberChoice) (now : ℕ) (r : Records) → HasLawfulContents r
       → rows.RowsBring sizes (rows_written (opening_deeds limits choice now r) (unopened now r))
   opening_brings limits choice now r h =
       let c = unopened now r in

@@ -5,7 +5,7 @@ use Rattle.mqtt_records.specs.declared.state.change.Change.{Change}
 use Rattle.mqtt_records.specs.declared.state.change.Change.TheVariants.{PutWill, PutSubscription, PutCopy, PutRetained}
 use Rattle.mqtt_records.specs.declared.state.records.Records.{Records}
 use Rattle.mqtt_records.specs.state.Saying.{IsSayable, AllSayable}
-use Rattle.mqtt_rules.specs.declared.step.Limits.{Limits}
+use Rattle.mqtt_rules.specs.declared.step.Capacity.{Capacity}
 use Rattle.mqtt_rules.specs.step.Contents.{Sizes, AreSizes, AreContentsOf, HasLawfulContentsOf, TakesLawful}
 use Rattle.mqtt_rules.specs.step.State.{Broker, MemberChoice}
 use Rattle.mqtt_rules.specs.step.Step.{Call, at_moment, deeds, opening_deeds, rows_written, unopened}
@@ -26,13 +26,13 @@ module _ (sizes : Sizes) (are : AreSizes sizes) where
   rows_said (change ∷ changes) q = (row_said change q.0, rows_said changes q.1)
 
   -- a row of a table can say what the rows of a step with a lawful packet put
-  pub step_said : (limits : Limits) (choice : MemberChoice) (now : ℕ) (call : Call) (b : Broker) → TakesLawful call → AreContentsOf sizes b
+  pub step_said : (limits : Capacity) (choice : MemberChoice) (now : ℕ) (call : Call) (b : Broker) → TakesLawful call → AreContentsOf sizes b
       → AllSayable (rows_written (deeds limits choice now call b) (at_moment now b))
   step_said limits choice now call b taken h =
       rows_said (rows_written (deeds limits choice now call b) (at_moment now b)) (step_brings sizes are limits choice now call b taken h)
 
   -- a row of a table can say what the rows of an opening put
-  pub opening_said : (limits : Limits) (choice : MemberChoice) (now : ℕ) (r : Records) → HasLawfulContentsOf sizes r
+  pub opening_said : (limits : Capacity) (choice : MemberChoice) (now : ℕ) (r : Records) → HasLawfulContentsOf sizes r
       → AllSayable (rows_written (opening_deeds limits choice now r) (unopened now r))
   opening_said limits choice now r h =
       rows_said (rows_written (opening_deeds limits choice now r) (unopened now r)) (opening_brings sizes are limits choice now r h)

@@ -11,11 +11,11 @@ use Rattle.mqtt_records.specs.declared.messages.message.RetainedMessage.{Retaine
 use Rattle.mqtt_records.specs.declared.state.subscription.Subscription.{Subscription}
 use Rattle.mqtt_records.specs.declared.state.session.Session.{Session}
 use Rattle.mqtt_records.specs.state.Records.{nothing}
-use Rattle.mqtt_rules.specs.declared.step.Limits.{Limits}
+use Rattle.mqtt_rules.specs.declared.step.Capacity.{Capacity}
 use Rattle.mqtt_rules.specs.declared.step.Report.TheVariants.{Accepted}
 use Rattle.mqtt_rules.specs.step.Packets.{puback, suback, disconnect}
 use Rattle.mqtt_rules.specs.step.State.{Broker}
-use Rattle.mqtt_rules.specs.step.Step.{NewLine, Input, Lost}
+use Rattle.mqtt_rules.specs.step.Step.{NewLine, Input, Lost, can_link, takes_line}
 use Rattle.mqtt_rules.proofs.step_lemmas.examples.Play.{turned_away, nothing_at_all, linked, usual, blank, Event, at, step, runs, tells, tells_with, out, hello, hello_with, welcome, in_line, wants_with, wish, options, wants, gives_up, topic, hi, Keeps, nothing_written, clean, away, letters, keeps}
 
 -- ---- 64 lines (ours)
@@ -28,6 +28,22 @@ sixty_four_lines = refl
 
 no_65th_line : step (at 0 NewLine) all_lines ≡ all_lines
 no_65th_line = refl
+
+-- as many as are asked for, and never more than 1,000
+abbrev a_pair : Capacity
+a_pair = record usual { lines = 2 }
+
+a_second_is_given : can_link a_pair (runs (replicate 1 (at 0 NewLine)) blank) ≡ true
+a_second_is_given = refl
+
+no_third_is : can_link a_pair (runs (replicate 2 (at 0 NewLine)) blank) ≡ false
+no_third_is = refl
+
+the_1000th_is_given : takes_line (record usual { lines = 2000 }) 999 ≡ true
+the_1000th_is_given = refl
+
+no_1001st_is : takes_line (record usual { lines = 2000 }) 1000 ≡ false
+no_1001st_is = refl
 
 its_place_is_free_when_one_is_lost : (step (at 0 NewLine) (step (at 0 (Lost 7)) all_lines)).given ≡ 65
 its_place_is_free_when_one_is_lost = refl
@@ -191,8 +207,8 @@ a_refused_one_of_lowest_service = refl
 
 -- ---- a table above a smaller limit is full (ours)
 
-abbrev few : Limits
-few = record { full = Refuse; queue = 2; sessions = 2; retained = 2 }
+abbrev few : Capacity
+few = record { full = Refuse; queue = 2; sessions = 2; retained = 2; lines = 64 }
 
 no_session_beside_more_than_the_limit : tells_with few (at 0 (Input 1 (hello (codes "r1")))) (crowd 3) ≡ turned_away 0x97
 unfolding varint

@@ -14,7 +14,7 @@ use Rattle.mqtt_packet.specs.declared.codec.packet.Packet.TheVariants.{Publish}
 use Rattle.mqtt_flow.specs.declared.outbound.entry.Full.TheVariants.{Refuse}
 use Rattle.mqtt_routes.specs.routing.Intended.{Publication, Copy, published, members as members_of, groups}
 use Rattle.mqtt_routes.specs.routing.Acceptance.{Routed, routed}
-use Rattle.mqtt_rules.specs.declared.step.Limits.{Limits}
+use Rattle.mqtt_rules.specs.declared.step.Capacity.{Capacity}
 use Rattle.mqtt_rules.specs.declared.step.Report.TheVariants.{Accepted, Entered}
 use Rattle.mqtt_records.specs.messages.PassedOn.{identified}
 use Rattle.mqtt_rules.specs.step.Packets.{pubrec}
@@ -231,7 +231,7 @@ unfolding varint
 the_older_group_comes_first = refl
 
 -- and as it is routed there
-abbrev goes_where : Limits → ℕ → Broker → Option Routed
+abbrev goes_where : Capacity → ℕ → Broker → Option Routed
 goes_where limits i b = routed (answers (env_of limits (nth i) b) b.records) to_topic (i ∷ []) (subscribers b.records)
 
 abbrev direct_copies : List Copy

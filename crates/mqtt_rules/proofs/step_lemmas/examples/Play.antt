@@ -23,7 +23,7 @@ use Rattle.mqtt_flow.specs.declared.outbound.entry.Full.{Full}
 use Rattle.mqtt_flow.specs.declared.outbound.entry.Full.TheVariants.{Refuse}
 use Rattle.mqtt_records.specs.declared.state.session.Session.{Session}
 use Rattle.mqtt_records.specs.state.Records.{nothing, changed_all}
-use Rattle.mqtt_rules.specs.declared.step.Limits.{Limits}
+use Rattle.mqtt_rules.specs.declared.step.Capacity.{Capacity}
 use Rattle.mqtt_rules.specs.declared.step.Report.{Report}
 use Rattle.mqtt_records.specs.messages.PassedOn.{property}
 use Rattle.mqtt_rules.specs.step.Packets.{connack, disconnect}
@@ -36,8 +36,8 @@ use Rattle.mqtt_records.specs.state.Session.{birth_of, fresh}
 use Rattle.mqtt_records.specs.declared.state.change.Change.{Change}
 use Rattle.mqtt_rules.specs.step.Deeds.{Deed, rows_of, rows_of_all, stored_after, after, after_all}
 
-abbrev pub usual : Limits
-usual = record { full = Refuse; queue = 1000; sessions = 1000; retained = 1000 }
+abbrev pub usual : Capacity
+usual = record { full = Refuse; queue = 1000; sessions = 1000; retained = 1000; lines = 64 }
 
 abbrev pub blank : Broker
 blank = record { records = nothing; lines = []; given = 0; now = 0; tellings = [] }
@@ -50,14 +50,14 @@ first number sender = []
 pub data Event : Type 0 where
   at : (now : ℕ) (call : Call) → Event
 
-abbrev pub step_with : Limits → Event → Broker → Broker
+abbrev pub step_with : Capacity → Event → Broker → Broker
 step_with limits (at now call) b = stepped limits first now call b
 
-abbrev pub runs_with : Limits → List Event → Broker → Broker
+abbrev pub runs_with : Capacity → List Event → Broker → Broker
 runs_with limits [] b = b
 runs_with limits (e ∷ es) b = runs_with limits es (step_with limits e b)
 
-abbrev pub tells_with : Limits → Event → Broker → Outcome
+abbrev pub tells_with : Capacity → Event → Broker → Outcome
 tells_with limits (at now call) b = told limits first now call b
 
 abbrev pub step : Event → Broker → Broker
@@ -196,22 +196,22 @@ published = subscribed ++ at 0 (Input 2 (sends 10)) ∷ []
 
 -- ---- for tables
 
-abbrev pub tells_by : Limits → MemberChoice → Event → Broker → Outcome
+abbrev pub tells_by : Capacity → MemberChoice → Event → Broker → Outcome
 tells_by limits choice (at now call) b = told limits choice now call b
 
-abbrev pub step_by : Limits → MemberChoice → Event → Broker → Broker
+abbrev pub step_by : Capacity → MemberChoice → Event → Broker → Broker
 step_by limits choice (at now call) b = stepped limits choice now call b
 
-abbrev pub runs_by : Limits → MemberChoice → List Event → Broker → Broker
+abbrev pub runs_by : Capacity → MemberChoice → List Event → Broker → Broker
 runs_by limits choice [] b = b
 runs_by limits choice (e ∷ es) b = runs_by limits choice es (step_by limits choice e b)
 
 -- what is stored is as it was
-abbrev pub Keeps : Limits → Event → Broker → Type 0
+abbrev pub Keeps : Capacity → Event → Broker → Type 0
 Keeps limits e b = stored (step_with limits e b) ≡ stored b
 
 -- the rows that a call writes, its moment left out
-abbrev pub rows_by : Limits → Event → Broker → List Change
+abbrev pub rows_by : Capacity → Event → Broker → List Change
 rows_by limits (at now call) b = rows_of_all (deeds limits first now call b) b.records
 
 none_before : (xs ys : List Change) → xs ++ ys ≡ [] → xs ≡ []
@@ -234,13 +234,13 @@ unmoved [] b e = refl
 unmoved (row ∷ rows) b e = absurd (cc)
 
 -- if no row is written
-pub nothing_written : (limits : Limits) (e : Event) (b : Broker) → rows_by limits e b ≡ [] → Keeps limits e b
+pub nothing_written : (limits : Capacity) (e : Event) (b : Broker) → rows_by limits e b ≡ [] → Keeps limits e b
 nothing_written limits (at now call) b e =
     let ds = deeds limits first now call b in
     unmoved (rows_of_all ds b.records) (after_all ds (at_moment now b)) e ∙ unwritten ds (at_moment now b) e
 
-abbrev pub narrow : Full → ℕ → Limits
-narrow full queue = record { full = full; queue = queue; sessions = 1000; retained = 1000 }
+abbrev pub narrow : Full → ℕ → Capacity
+narrow full queue = record { full = full; queue = queue; sessions = 1000; retained = 1000; lines = 64 }
 
 -- a session of this client that is away, with nothing
 abbrev pub away : ℕ → List ℕ → Session

@@ -10,7 +10,7 @@ use Rattle.mqtt_packet.specs.declared.connect.connect.Will.{Will}
 use Rattle.mqtt_packet.specs.declared.codec.packet.Packet.{Packet}
 use Rattle.mqtt_packet.specs.declared.codec.packet.Packet.TheVariants.{Connect, Pingreq, Pingresp, Disconnect}
 use Rattle.mqtt_flow.specs.declared.outbound.entry.Full.TheVariants.{Refuse}
-use Rattle.mqtt_rules.specs.declared.step.Limits.{Limits}
+use Rattle.mqtt_rules.specs.declared.step.Capacity.{Capacity}
 use Rattle.mqtt_rules.specs.declared.step.Report.TheVariants.{Accepted, Entered, Ended, WillRefused}
 use Rattle.mqtt_rules.specs.step.Packets.{reason, disconnect}
 use Rattle.mqtt_records.specs.messages.PassedOn.{property}
@@ -230,8 +230,8 @@ ten_seconds_without_connect = refl
 
 -- ---- a Will for which a queue has no room is refused
 
-abbrev narrow : Limits
-narrow = record { full = Refuse; queue = 1; sessions = 1000; retained = 1000 }
+abbrev narrow : Capacity
+narrow = record { full = Refuse; queue = 1; sessions = 1000; retained = 1000; lines = 64 }
 
 abbrev crowded : Broker
 crowded = runs_with narrow (with_will forever at_once ++ at 0 (Input 2 (sends 10)) ∷ []) blank

@@ -8,7 +8,7 @@ use Rattle.mqtt_base.specs.declared.limits.TheConstants.{LAST_NUMBER, QUEUE_LIMI
 use Rattle.mqtt_records.specs.declared.state.records.Records.{Records}
 use Rattle.mqtt_records.specs.declared.state.change.Change.{Change}
 use Rattle.mqtt_records.specs.state.Records.{nothing, changed_all, FitAll, IsNumber}
-use Rattle.mqtt_rules.specs.declared.step.Limits.{Limits}
+use Rattle.mqtt_rules.specs.declared.step.Capacity.{Capacity}
 use Rattle.mqtt_rules.specs.step.State.{Broker, Env, stored, MemberChoice, capped}
 use Rattle.mqtt_rules.specs.step.Deeds.{Deed, rows_of_all, after_all}
 use Rattle.mqtt_rules.specs.step.Step.{Call, NewLine, Input, BadInput, Lost, Pump, Tick, deeds, deeds_of, at_moment, env_of, stamp_of, stamped, rows_written, with_moment, done, stepped, is_spent, is_step_spent, opening, opening_deeds, unopened, opened, is_opening_spent}
@@ -153,19 +153,19 @@ moment_last b now last = max-le last (min-le_right now LAST_NUMBER)
 moment_timed : (b : Broker) (now : ℕ) → IsTimed b → IsTimed (at_moment now b)
 moment_timed b now timed = let more = le-max_left b.now (capped now) in omega (arith, timed, more)
 
-step_made : (limits : Limits) (choice : MemberChoice) (now : ℕ) (call : Call) (b : Broker) → AreWithin limits → IsCoherent (stored b) → IsTimed b → IsNumber b.now → is_step_spent limits choice now call b ≡ false
+step_made : (limits : Capacity) (choice : MemberChoice) (now : ℕ) (call : Call) (b : Broker) → AreWithin limits → IsCoherent (stored b) → IsTimed b → IsNumber b.now → is_step_spent limits choice now call b ≡ false
     → FitAll (rows_written (deeds limits choice now call b) (at_moment now b)) (stored b) × IsCoherent (stored (stepped limits choice now call b))
 step_made limits choice now call b within h timed last e =
     done_fits (deeds limits choice now call b) (at_moment now b)
     (ready_call (env_of limits choice b) within (at_moment now b) h (moment_timed b now timed) (moment_last b now last) call) e
 
 -- the rows of a step fit what is stored, if no number is spent
-pub step_fits : (limits : Limits) (choice : MemberChoice) (now : ℕ) (call : Call) (b : Broker) → AreWithin limits → IsCoherent (stored b) → IsTimed b → IsNumber b.now → is_step_spent limits choice now call b ≡ false
+pub step_fits : (limits : Capacity) (choice : MemberChoice) (now : ℕ) (call : Call) (b : Broker) → AreWithin limits → IsCoherent (stored b) → IsTimed b → IsNumber b.now → is_step_spent limits choice now call b ≡ false
     → FitAll (rows_written (deeds limits choice now call b) (at_moment now b)) (stored b)
 step_fits limits choice now call b within h timed last e = (step_made limits choice now call b within h timed last e).0
 
 -- a step leaves coherent records, if no number is spent
-pub step_coherent : (limits : Limits) (choice : MemberChoice) (now : ℕ) (call : Call) (b : Broker) → AreWithin limits → IsCoherent (stored b) → IsTimed b → IsNumber b.now → is_step_spent limits choice now call b ≡ false
+pub step_coherent : (limits : Capacity) (choice : MemberChoice) (now : ℕ) (call : Call) (b : Broker) → AreWithin limits → IsCoherent (stored b) → IsTimed b → IsNumber b.now → is_step_spent limits choice now call b ≡ false
     → IsCoherent (stored (stepped limits choice now call b))
 step_coherent limits choice now call b within h timed last e = (step_made limits choice now call b within h timed last e).1
 
@@ -174,7 +174,7 @@ stamped_now [] b = refl
 stamped_now (x ∷ rows) b = refl
 
 -- the moment behind a step is one that is kept
-pub step_last : (limits : Limits) (choice : MemberChoice) (now : ℕ) (call : Call) (b : Broker) → IsNumber b.now → IsNumber (stepped limits choice now call b).now
+pub step_last : (limits : Capacity) (choice : MemberChoice) (now : ℕ) (call : Call) (b : Broker) → IsNumber b.now → IsNumber (stepped limits choice now call b).now
 step_last limits choice now call b last =
     let c = at_moment now b in
     let ds = deeds limits choice now call b in
@@ -191,24 +191,24 @@ opening_timed r now last =
     let more = le-max_left (capped r.moment) (capped now) in
     omega (arith, up, more)
 
-opening_made : (limits : Limits) (choice : MemberChoice) (now : ℕ) (r : Records) → AreWithin limits → IsCoherent r → is_opening_spent limits choice now r ≡ false
+opening_made : (limits : Capacity) (choice : MemberChoice) (now : ℕ) (r : Records) → AreWithin limits → IsCoherent r → is_opening_spent limits choice now r ≡ false
     → FitAll (rows_written (opening_deeds limits choice now r) (unopened now r)) r × IsCoherent (stored (opened limits choice now r))
 opening_made limits choice now r within h e =
     let b = unopened now r in
     done_fits (opening_deeds limits choice now r) b (ready_opening (env_of limits choice b) within b h (opening_timed r now h.counters.moment) (opening_last r now)) e
 
 -- the rows of an opening fit what is stored, if no number is spent
-pub opening_fits : (limits : Limits) (choice : MemberChoice) (now : ℕ) (r : Records) → AreWithin limits → IsCoherent r → is_opening_spent limits choice now r ≡ false
+pub opening_fits : (limits : Capacity) (choice : MemberChoice) (now : ℕ) (r : Records) → AreWithin limits → IsCoherent r → is_opening_spent limits choice now r ≡ false
     → FitAll (rows_written (opening_deeds limits choice now r) (unopened now r)) r
 opening_fits limits choice now r within h e = (opening_made limits choice now r within h e).0
 
 -- an opening leaves coherent records, if no number is spent
-pub opening_coherent : (limits : Limits) (choice : MemberChoice) (now : ℕ) (r : Records) → AreWithin limits → IsCoherent r → is_opening_spent limits choice now r ≡ false
+pub opening_coherent : (limits : Capacity) (choice : MemberChoice) (now : ℕ) (r : Records) → AreWithin limits → IsCoherent r → is_opening_spent limits choice now r ≡ false
     → IsCoherent (stored (opened limits choice now r))
 opening_coherent limits choice now r within h e = (opening_made limits choice now r within h e).1
 
 -- the moment behind an opening is one that is kept
-pub opened_last : (limits : Limits) (choice : MemberChoice) (now : ℕ) (r : Records) → IsNumber (opened limits choice now r).now
+pub opened_last : (limits : Capacity) (choice : MemberChoice) (now : ℕ) (r : Records) → IsNumber (opened limits choice now r).now
 opened_last limits choice now r =
     let c = unopened now r in
     let ds = opening_deeds limits choice now r in

@@ -20,7 +20,7 @@ use Rattle.mqtt_records.specs.declared.state.change.Change.{Change}
 use Rattle.mqtt_records.specs.lists.Order.{IsAscending, row_at}
 use Rattle.mqtt_records.specs.state.Session.{copy_place}
 use Rattle.mqtt_records.proofs.lists_lemmas.LookUps.{row_at-here}
-use Rattle.mqtt_rules.specs.declared.step.Limits.{Limits}
+use Rattle.mqtt_rules.specs.declared.step.Capacity.{Capacity}
 use Rattle.mqtt_rules.specs.step.State.{Line, Broker, Env, session_at, entry_on, queue_on, MemberChoice}
 use Rattle.mqtt_rules.specs.step.Routing.{publish}
 use Rattle.mqtt_rules.specs.step.Subscribe.{subscription, next_number}
@@ -223,14 +223,14 @@ moment_keeps [] b h = h
 moment_keeps (row ∷ rows) b h = h
 
 -- a step keeps identifiers in flight apart
-pub step_keeps : (limits : Limits) (choice : MemberChoice) (now : ℕ) (call : Call) (b : Broker) → HasDistinctIdentifiers b.records → HasDistinctIdentifiers (stepped limits choice now call b).records
+pub step_keeps : (limits : Capacity) (choice : MemberChoice) (now : ℕ) (call : Call) (b : Broker) → HasDistinctIdentifiers b.records → HasDistinctIdentifiers (stepped limits choice now call b).records
 step_keeps limits choice now call b h =
     let c = at_moment now b in
     let ds = step_deeds limits choice now call b in
     moment_keeps (rows_of_all ds c.records) (after_all ds c) (leads_call (env_of limits choice b) anyone Distinct (λ d x. ⊤) (flight_law (env_of limits choice b)) call c h (call_of_anyone call c)).1
 
 -- an opening keeps identifiers in flight apart
-pub opening_keeps : (limits : Limits) (choice : MemberChoice) (now : ℕ) (r : Records) → HasDistinctIdentifiers r → HasDistinctIdentifiers (opened limits choice now r).records
+pub opening_keeps : (limits : Capacity) (choice : MemberChoice) (now : ℕ) (r : Records) → HasDistinctIdentifiers r → HasDistinctIdentifiers (opened limits choice now r).records
 opening_keeps limits choice now r h =
     let b = unopened now r in
     let env = env_of limits choice b in

@@ -10,7 +10,7 @@ use Rattle.mqtt_records.specs.declared.state.change.Change.{Change}
 use Rattle.mqtt_records.specs.state.Records.{IsNumber}
 use Rattle.mqtt_records.specs.state.Session.{birth_of, auto}
 use Rattle.mqtt_records.specs.lists.Order.{IsAscending}
-use Rattle.mqtt_rules.specs.declared.step.Limits.{Limits}
+use Rattle.mqtt_rules.specs.declared.step.Capacity.{Capacity}
 use Rattle.mqtt_rules.specs.step.State.{Line, Broker, Env, stored, session_at, is_connected, MemberChoice}
 use Rattle.mqtt_rules.specs.step.Deeds.{Whose, whose, Part, Resume, Open, Close, SetAlias, Hear, Deed, Name, At, Forget, RefuseWill, Link, On, Send, rows_of_all, after, after_all}
 use Rattle.mqtt_rules.specs.step.Closing.{end_session, is_due, end_due, has_due_end}
@@ -163,7 +163,7 @@ stamped_autos [] b = refl
 stamped_autos (x ∷ rows) b = refl
 
 -- a step keeps each session on at most one line, if no number is spent
-pub step_unique : (limits : Limits) (choice : MemberChoice) (now : ℕ) (call : Call) (b : Broker) → AreWithin limits → IsCoherent (stored b) → IsTimed b → IsNumber b.now → is_step_spent limits choice now call b ≡ false
+pub step_unique : (limits : Capacity) (choice : MemberChoice) (now : ℕ) (call : Call) (b : Broker) → AreWithin limits → IsCoherent (stored b) → IsTimed b → IsNumber b.now → is_step_spent limits choice now call b ≡ false
     → HasUniqueLines b → HasUniqueLines (stepped limits choice now call b)
 step_unique limits choice now call b within h timed last e u =
     let c = at_moment now b in
@@ -241,7 +241,7 @@ none_connected b k e =
     h.1 x.0 (among_connected x.0 r.sessions (row_among birth_of k x.0 r.sessions x.1) (ap is_none x.2)) (found_key birth_of k x.0 r.sessions x.1)
 
 -- behind an opening nobody stands on a line
-pub opening_unique : (limits : Limits) (choice : MemberChoice) (now : ℕ) (r : Records) → HasUniqueLines (opened limits choice now r)
+pub opening_unique : (limits : Capacity) (choice : MemberChoice) (now : ℕ) (r : Records) → HasUniqueLines (opened limits choice now r)
 opening_unique limits choice now r =
     let b = unopened now r in
     let env = env_of limits choice b in

@@ -16,7 +16,7 @@ use Rattle.mqtt_records.specs.declared.state.change.Change.TheVariants.{SetCount
 use Rattle.mqtt_records.specs.lists.Order.{has_row, put_row, change_row}
 use Rattle.mqtt_records.specs.state.Session.{birth_of, copy_place, fresh, with_columns, with_will, with_subscription, without_subscription, with_open, without_open, with_copy, with_phase, without_copy, in_phase}
 use Rattle.mqtt_records.specs.state.Records.{changed, changed_all, put_session, with_counter, kept_place}
-use Rattle.mqtt_rules.specs.declared.step.Limits.{Limits}
+use Rattle.mqtt_rules.specs.declared.step.Capacity.{Capacity}
 use Rattle.mqtt_rules.specs.step.State.{Broker, Env, session_at, MemberChoice}
 use Rattle.mqtt_rules.specs.step.Deeds.{Whose, Part, Resume, Enter, Deed, Accept, Begin, At, Finish, Keep, Forget, part_rows, part_rows_of, rows_of_all, after, after_all}
 use Rattle.mqtt_rules.specs.step.Step.{Call, deeds, at_moment, env_of, with_moment, done, stepped, opening, unopened, opened}
@@ -199,12 +199,12 @@ accepted_done : (ds : List Deed) (b : Broker) → AreGood OfAccepted ds b → Ha
 accepted_done ds b q h = moment_accepted (rows_of_all ds b.records) (after_all ds b) (accepted_all ds b q h)
 
 -- behind a step each copy is of an accepted publication
-pub step_accepted : (limits : Limits) (choice : MemberChoice) (now : ℕ) (call : Call) (b : Broker) → HasAcceptedNumbers b.records → HasAcceptedNumbers (stepped limits choice now call b).records
+pub step_accepted : (limits : Capacity) (choice : MemberChoice) (now : ℕ) (call : Call) (b : Broker) → HasAcceptedNumbers b.records → HasAcceptedNumbers (stepped limits choice now call b).records
 step_accepted limits choice now call b h =
     accepted_done (deeds limits choice now call b) (at_moment now b) ((leads_deeds (env_of limits choice b) (λ c. ⊤) OfAccepted (accepted_law (env_of limits choice b)) accepted_mark call (at_moment now b) tt).0) h
 
 -- behind an opening each copy is of an accepted publication
-pub opening_accepted : (limits : Limits) (choice : MemberChoice) (now : ℕ) (r : Records) → HasAcceptedNumbers r → HasAcceptedNumbers (opened limits choice now r).records
+pub opening_accepted : (limits : Capacity) (choice : MemberChoice) (now : ℕ) (r : Records) → HasAcceptedNumbers r → HasAcceptedNumbers (opened limits choice now r).records
 opening_accepted limits choice now r h =
     let b = unopened now r in
     accepted_done (opening (env_of limits choice b) b) b ((leads_opened (env_of limits choice b) (λ c. ⊤) OfAccepted (accepted_law (env_of limits choice b)) accepted_mark b tt).0) h

@@ -13,7 +13,7 @@ use Rattle.mqtt_records.specs.lists.Order.{IsAscending, has_row, put_row, change
 use Rattle.mqtt_records.specs.state.Session.{birth_of, place_of, number_of, copy_place, fresh, with_columns, with_will, with_subscription, without_subscription, without_filter, with_open, without_open, with_copy, with_phase, without_copy, in_phase}
 use Rattle.mqtt_records.specs.state.Records.{nothing, changed, changed_all, put_session, in_session, with_counter, kept_place}
 use Rattle.mqtt_records.proofs.lists_lemmas.OrderLemmas.{put-ascending, filter-ascending, remove-ascending, change-ascending}
-use Rattle.mqtt_rules.specs.declared.step.Limits.{Limits}
+use Rattle.mqtt_rules.specs.declared.step.Capacity.{Capacity}
 use Rattle.mqtt_rules.specs.step.State.{Broker, MemberChoice}
 use Rattle.mqtt_rules.specs.step.Deeds.{Deed, rows_of, rows_of_all, after, after_all}
 use Rattle.mqtt_rules.specs.step.Step.{Call, deeds, at_moment, env_of, with_moment, done, stepped, opening, unopened, opened}
@@ -85,11 +85,11 @@ order_done : (ds : List Deed) (b : Broker) → AreInOrder b.records → AreInOrd
 order_done ds b h = moment_order (rows_of_all ds b.records) (after_all ds b) (order_all ds b h)
 
 -- a step leaves all keys rising
-pub step_order : (limits : Limits) (choice : MemberChoice) (now : ℕ) (call : Call) (b : Broker) → AreInOrder b.records → AreInOrder (stepped limits choice now call b).records
+pub step_order : (limits : Capacity) (choice : MemberChoice) (now : ℕ) (call : Call) (b : Broker) → AreInOrder b.records → AreInOrder (stepped limits choice now call b).records
 step_order limits choice now call b h = order_done (deeds limits choice now call b) (at_moment now b) h
 
 -- an opening leaves all keys rising
-pub opening_order : (limits : Limits) (choice : MemberChoice) (now : ℕ) (r : Records) → AreInOrder r → AreInOrder (opened limits choice now r).records
+pub opening_order : (limits : Capacity) (choice : MemberChoice) (now : ℕ) (r : Records) → AreInOrder r → AreInOrder (opened limits choice now r).records
 opening_order limits choice now r h = let b = unopened now r in order_done (opening (env_of limits choice b) b) b h
 
 -- in nothing stored all keys rise

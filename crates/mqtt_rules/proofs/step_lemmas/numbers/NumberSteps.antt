@@ -8,7 +8,7 @@ use Rattle.mqtt_records.specs.declared.state.records.Records.{Records}
 use Rattle.mqtt_records.specs.lists.Order.{IsAbove, IsAscending}
 use Rattle.mqtt_records.specs.state.Session.{number_of}
 use Rattle.mqtt_records.proofs.lists_lemmas.OrderLemmas.{above_less}
-use Rattle.mqtt_rules.specs.declared.step.Limits.{Limits}
+use Rattle.mqtt_rules.specs.declared.step.Capacity.{Capacity}
 use Rattle.mqtt_rules.specs.step.State.{Broker, capped, MemberChoice}
 use Rattle.mqtt_rules.specs.step.Deeds.{Deed, after_all, rows_of_all}
 use Rattle.mqtt_rules.specs.step.Step.{Call, deeds, at_moment, env_of, with_moment, done, stepped, opening, unopened, opened}
@@ -77,54 +77,54 @@ timed_done ds b h =
 
 -- ---- steps
 
-step_next : (limits : Limits) (choice : MemberChoice) (now : ℕ) (call : Call) (b : Broker) → AreGood GivesNext (deeds limits choice now call b) (at_moment now b)
+step_next : (limits : Capacity) (choice : MemberChoice) (now : ℕ) (call : Call) (b : Broker) → AreGood GivesNext (deeds limits choice now call b) (at_moment now b)
 step_next limits choice now call b = (leads_deeds (env_of limits choice b) (λ c. ⊤) GivesNext (next_law (env_of limits choice b)) next_mark call (at_moment now b) tt).0
 
 -- a step's numbers count on
-pub step_counts : (limits : Limits) (choice : MemberChoice) (now : ℕ) (call : Call) (b : Broker) → CountOn (deeds limits choice now call b) b.records (stepped limits choice now call b).records
+pub step_counts : (limits : Capacity) (choice : MemberChoice) (now : ℕ) (call : Call) (b : Broker) → CountOn (deeds limits choice now call b) b.records (stepped limits choice now call b).records
 step_counts limits choice now call b = count_done (deeds limits choice now call b) (at_moment now b) (step_next limits choice now call b)
 
 -- a step lowers no counter
-pub step_fell : (limits : Limits) (choice : MemberChoice) (now : ℕ) (call : Call) (b : Broker) → NoneFell b.records (stepped limits choice now call b).records
+pub step_fell : (limits : Capacity) (choice : MemberChoice) (now : ℕ) (call : Call) (b : Broker) → NoneFell b.records (stepped limits choice now call b).records
 step_fell limits choice now call b = none_fell (deeds limits choice now call b) b.records (stepped limits choice now call b).records (step_counts limits choice now call b)
 
 -- a step lowers no stored moment, and stores none that was not handed in
-pub step_timed : (limits : Limits) (choice : MemberChoice) (now : ℕ) (call : Call) (b : Broker) → IsTimed b
+pub step_timed : (limits : Capacity) (choice : MemberChoice) (now : ℕ) (call : Call) (b : Broker) → IsTimed b
     → (b.records.moment ≤ (stepped limits choice now call b).records.moment) × IsTimed (stepped limits choice now call b)
 step_timed limits choice now call b h =
     let more = le-max_left b.now (capped now) in
     timed_done (deeds limits choice now call b) (at_moment now b) (omega (arith, h, more))
 
 -- behind a step each session has a birth that was given
-pub step_given : (limits : Limits) (choice : MemberChoice) (now : ℕ) (call : Call) (b : Broker) → HasGivenBirths b.records → HasGivenBirths (stepped limits choice now call b).records
+pub step_given : (limits : Capacity) (choice : MemberChoice) (now : ℕ) (call : Call) (b : Broker) → HasGivenBirths b.records → HasGivenBirths (stepped limits choice now call b).records
 step_given limits choice now call b h = given_done (deeds limits choice now call b) (at_moment now b) (step_next limits choice now call b) h
 
 -- ---- opening
 
-opening_next : (limits : Limits) (choice : MemberChoice) (now : ℕ) (r : Records) → AreGood GivesNext (opening (env_of limits choice (unopened now r)) (unopened now r)) (unopened now r)
+opening_next : (limits : Capacity) (choice : MemberChoice) (now : ℕ) (r : Records) → AreGood GivesNext (opening (env_of limits choice (unopened now r)) (unopened now r)) (unopened now r)
 opening_next limits choice now r =
     let b = unopened now r in
     let env = env_of limits choice b in
     (leads_opened env (λ c. ⊤) GivesNext (next_law env) next_mark b tt).0
 
 -- an opening's numbers count on
-pub opening_counts : (limits : Limits) (choice : MemberChoice) (now : ℕ) (r : Records)
+pub opening_counts : (limits : Capacity) (choice : MemberChoice) (now : ℕ) (r : Records)
     → CountOn (opening (env_of limits choice (unopened now r)) (unopened now r)) r (opened limits choice now r).records
 opening_counts limits choice now r =
     count_done (opening (env_of limits choice (unopened now r)) (unopened now r)) (unopened now r) (opening_next limits choice now r)
 
 -- an opening lowers no counter
-pub opening_fell : (limits : Limits) (choice : MemberChoice) (now : ℕ) (r : Records) → NoneFell r (opened limits choice now r).records
+pub opening_fell : (limits : Capacity) (choice : MemberChoice) (now : ℕ) (r : Records) → NoneFell r (opened limits choice now r).records
 opening_fell limits choice now r = none_fell (opening (env_of limits choice (unopened now r)) (unopened now r)) r (opened limits choice now r).records (opening_counts limits choice now r)
 
 -- an opening lowers no stored moment, and stores none that was not handed in
-pub opening_timed : (limits : Limits) (choice : MemberChoice) (now : ℕ) (r : Records) → r.moment ≤ LAST_NUMBER → (r.moment ≤ (opened limits choice now r).records.moment) × IsTimed (opened limits choice now r)
+pub opening_timed : (limits : Capacity) (choice : MemberChoice) (now : ℕ) (r : Records) → r.moment ≤ LAST_NUMBER → (r.moment ≤ (opened limits choice now r).records.moment) × IsTimed (opened limits choice now r)
 opening_timed limits choice now r within =
     let counts : r.moment ≤ capped r.moment = le-min (omega arith) within in
     let more = le-max_left (capped r.moment) (capped now) in
     timed_done (opening (env_of limits choice (unopened now r)) (unopened now r)) (unopened now r) (omega (arith, counts, more))
 
 -- behind an opening each session has a birth that was given
-pub opening_given : (limits : Limits) (choice : MemberChoice) (now : ℕ) (r : Records) → HasGivenBirths r → HasGivenBirths (opened limits choice now r).records
+pub opening_given : (limits : Capacity) (choice : MemberChoice) (now : ℕ) (r : Records) → HasGivenBirths r → HasGivenBirths (opened limits choice now r).records
 opening_given limits choice now r h =
     given_done (opening (env_of limits choice (unopened now r)) (unopened now r)) (unopened now r) (opening_next limits choice now r) h

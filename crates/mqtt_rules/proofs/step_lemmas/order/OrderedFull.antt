@@ -17,7 +17,7 @@ use Rattle.mqtt_records.specs.lists.Order.{IsAscending, row_at, change_row}
 use Rattle.mqtt_records.specs.state.Session.{birth_of, with_subscription}
 use Rattle.mqtt_records.specs.state.Records.{changed_all}
 use Rattle.mqtt_rules.specs.step.Fitting.{has_form}
-use Rattle.mqtt_rules.specs.declared.step.Limits.{Limits}
+use Rattle.mqtt_rules.specs.declared.step.Capacity.{Capacity}
 use Rattle.mqtt_rules.specs.step.Packets.{publish_of}
 use Rattle.mqtt_rules.specs.step.State.{Line, Broker, Env, stored, session_at, line_of, MemberChoice}
 use Rattle.mqtt_rules.specs.step.Deeds.{whose, Message, Origin, Part, Enter, Deed, Accept, Count, At, Keep, Forget, Act, after, after_all, part_rows_of, stored_after, then, always, series, with_session, of_session, offer}
@@ -228,14 +228,14 @@ queues_keeping limit env le small = record {
 }
 
 -- a step keeps all queues within the broker's limit
-pub step_queues : (limits : Limits) (choice : MemberChoice) (now : ℕ) (call : Call) (b : Broker) → limits.queue ≤ QUEUE_LIMIT → IsOrdered (stored b) → AreShort limits.queue (stored b).sessions
+pub step_queues : (limits : Capacity) (choice : MemberChoice) (now : ℕ) (call : Call) (b : Broker) → limits.queue ≤ QUEUE_LIMIT → IsOrdered (stored b) → AreShort limits.queue (stored b).sessions
     → AreShort limits.queue (stored (stepped limits choice now call b)).sessions
 step_queues limits choice now call b small ordered short =
     let env = env_of limits choice b in
     (step_keeps limits choice now call b (ShortQueues limits.queue) RoomToEnter (queues_keeping limits.queue env (omega arith) small) (record { ordered = ordered; short = short })).short
 
 -- an opening keeps all queues within the broker's limit
-pub opening_queues : (limits : Limits) (choice : MemberChoice) (now : ℕ) (r : Records) → limits.queue ≤ QUEUE_LIMIT → IsOrdered r → AreShort limits.queue r.sessions
+pub opening_queues : (limits : Capacity) (choice : MemberChoice) (now : ℕ) (r : Records) → limits.queue ≤ QUEUE_LIMIT → IsOrdered r → AreShort limits.queue r.sessions
     → AreShort limits.queue (stored (opened limits choice now r)).sessions
 opening_queues limits choice now r small ordered short =
     let env = env_of limits choice (unopened now r) in

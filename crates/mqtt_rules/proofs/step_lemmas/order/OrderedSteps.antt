@@ -3,7 +3,7 @@ use Rattle.std.proofs.Common.{ℕ, List, [], ◌∷◌, subst}
 use Rattle.std.specs.List.{AllByRecursion}
 use Rattle.mqtt_records.specs.declared.state.session.Session.{Session}
 use Rattle.mqtt_records.specs.declared.state.records.Records.{Records}
-use Rattle.mqtt_rules.specs.declared.step.Limits.{Limits}
+use Rattle.mqtt_rules.specs.declared.step.Capacity.{Capacity}
 use Rattle.mqtt_rules.specs.step.State.{Broker, stored, MemberChoice}
 use Rattle.mqtt_rules.specs.step.Deeds.{Deed}
 use Rattle.mqtt_rules.specs.step.Step.{Call, deeds, stepped, at_moment, env_of, opening, unopened, opened, rows_written, done}
@@ -16,11 +16,11 @@ pub done-ordered : (ds : List Deed) (b : Broker) → IsOrdered (stored b) → Is
 done-ordered ds b h = subst IsOrdered (rows_store ds b) (changed_all-ordered (rows_written ds b) (stored b) h)
 
 -- a step leaves all rows in order
-pub step-ordered : (limits : Limits) (choice : MemberChoice) (now : ℕ) (call : Call) (b : Broker) → IsOrdered (stored b) → IsOrdered (stored (stepped limits choice now call b))
+pub step-ordered : (limits : Capacity) (choice : MemberChoice) (now : ℕ) (call : Call) (b : Broker) → IsOrdered (stored b) → IsOrdered (stored (stepped limits choice now call b))
 step-ordered limits choice now call b h = done-ordered (deeds limits choice now call b) (at_moment now b) h
 
 -- an opening leaves all rows in order
-pub opening-ordered : (limits : Limits) (choice : MemberChoice) (now : ℕ) (r : Records) → IsOrdered r → IsOrdered (stored (opened limits choice now r))
+pub opening-ordered : (limits : Capacity) (choice : MemberChoice) (now : ℕ) (r : Records) → IsOrdered r → IsOrdered (stored (opened limits choice now r))
 opening-ordered limits choice now r h = done-ordered (opening (env_of limits choice (unopened now r)) (unopened now r)) (unopened now r) h
 
 event-ordered : (e : Event) (b : Broker) → IsOrdered (stored b) → IsOrdered (stored (after_event e b))

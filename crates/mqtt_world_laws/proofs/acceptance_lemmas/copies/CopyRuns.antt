@@ -6,7 +6,7 @@ use Rattle.std.proofs.lemmas.List.Elements.{filter_map-append}
 use Rattle.mqtt_base.specs.declared.limits.TheConstants.{QUEUE_LIMIT}
 use Rattle.mqtt_base.specs.declared.session.CopyId.{CopyId}
 use Rattle.mqtt_records.specs.declared.state.records.Records.{Records}
-use Rattle.mqtt_rules.specs.declared.step.Limits.{Limits}
+use Rattle.mqtt_rules.specs.declared.step.Capacity.{Capacity}
 use Rattle.mqtt_rules.specs.step.State.{Broker, MemberChoice}
 use Rattle.mqtt_rules.specs.step.Deeds.{Deed, after_all, rows_of_all}
 use Rattle.mqtt_rules.specs.step.Laws.{AreWithin, IsOrdered}
@@ -32,7 +32,7 @@ use Rattle.mqtt_rules.proofs.step_lemmas.fit.RowsFit.{queues_short}
 short : (r : Records) → IsOrdered r → ShortQueues QUEUE_LIMIT r
 short r h = record { ordered = h; short = queues_short r.sessions h.each }
 
-module _ (c : CopyId) (limits : Limits) (within : AreWithin limits) where
+module _ (c : CopyId) (limits : Capacity) (within : AreWithin limits) where
   call_balances : (choice : MemberChoice) (now : ℕ) (call : Call) (b : Broker) → IsSteady b → Balances c (deeds limits choice now call b) b (stepped limits choice now call b)
   call_balances choice now call b s =
       let env = env_of limits choice b in
@@ -69,7 +69,7 @@ module _ (c : CopyId) (limits : Limits) (within : AreWithin limits) where
   }
 
 -- in every run that spends no number what entered stands or has ended
-pub run_balances : (limits : Limits) (ts : List Turn) (w : World) → IsNew w → IsCounted limits ts w → (c : CopyId) → IsBalanced c limits ts w
+pub run_balances : (limits : Capacity) (ts : List Turn) (w : World) → IsNew w → IsCounted limits ts w → (c : CopyId) → IsBalanced c limits ts w
 run_balances limits ts w new fair c = run_walks (Balances c) limits ts w (balances c limits fair.within) new fair
 
 -- ---- publications are numbered one after the other
@@ -82,7 +82,7 @@ abbrev pub Numbers : List Deed → Broker → Broker → Type 0
 Numbers ds b d = CountsOn b.records.publications (filter_map publication_given ds) d.records.publications
 
 -- publications count on
-pub numbers : (limits : Limits) → Walk limits Numbers
+pub numbers : (limits : Capacity) → Walk limits Numbers
 numbers limits = record {
   none = λ b. refl;
   next = λ xs ys a b d p q. subst (λ (ns : List ℕ). CountsOn a.records.publications ns d.records.publications) (sym (filter_map-append publication_given xs ys))
@@ -94,6 +94,6 @@ numbers limits = record {
 }
 
 -- and publications are numbered one by one
-pub run_numbers : (limits : Limits) (ts : List Turn) (w : World) → IsNew w → IsCounted limits ts w
+pub run_numbers : (limits : Capacity) (ts : List Turn) (w : World) → IsNew w → IsCounted limits ts w
     → CountsOn w.broker.records.publications (publications_from limits ts w) (run limits ts w).broker.records.publications
 run_numbers limits ts w new fair = run_walks Numbers limits ts w (numbers limits) new fair

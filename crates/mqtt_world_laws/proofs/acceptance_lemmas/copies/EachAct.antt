@@ -450,7 +450,7 @@ module _ (env : Env) (came : Came) (Keeps : Broker → Type 0) (R : List Deed �
 
   -- what is said of publications, beginnings, openings and grants is said of a call
   pub call_says : (call : Call) → CameIn came call → SaysAct (deeds_of env call)
-  call_says NewLine took b h = calmly (cond (can_link b) (Link (suc b.given) ∷ []) []) b (calm_cond (can_link b) (Link (suc b.given) ∷ []) [] (tt, tt) tt)
+  call_says NewLine took b h = calmly (cond (can_link env.limits b) (Link (suc b.given) ∷ []) []) b (calm_cond (can_link env.limits b) (Link (suc b.given) ∷ []) [] (tt, tt) tt)
   call_says (Input n packet) took b h =
       on_a_line (line_at n b) (λ l. series (always (On n Hear ∷ []) ∷ on_packet env l packet l.session ∷ []))
       (λ l. acts (always (On n Hear ∷ []) ∷ on_packet env l packet l.session ∷ []) (calm (On n Hear ∷ []) (tt, tt), (reading l packet l.session (took n packet refl), tt))) b h

@@ -14,7 +14,7 @@ use Rattle.mqtt_records.specs.declared.state.change.Change.{Change}
 use Rattle.mqtt_records.specs.declared.state.session.Session.{Session}
 use Rattle.mqtt_records.specs.lists.Distinct.{AllDiffer}
 use Rattle.mqtt_topic.specs.names.Names.{is_empty}
-use Rattle.mqtt_rules.specs.declared.step.Limits.{Limits}
+use Rattle.mqtt_rules.specs.declared.step.Capacity.{Capacity}
 use Rattle.mqtt_rules.specs.step.Deeds.{whose, Message, Origin, Subscribe, Deed, Accept, Begin, Count, At, Keep, Forget, after, after_all, rows_of_all, series}
 use Rattle.mqtt_rules.specs.step.Routing.{CopyTo, accepted_copies, deliver, forgets, is_queued, kept_message, place_of_kept, publish, retain_by, retained_of}
 use Rattle.mqtt_rules.specs.step.State.{Broker, Env, MemberChoice, session_at}
@@ -301,7 +301,7 @@ module _ (c : CopyId) where
   kinds_done (row ∷ rows) b = refl
 
   -- what enters by a call is counted off
-  pub call_counted : (limits : Limits) (choice : MemberChoice) (now : ℕ) (call : Call) (b : Broker) → Orders b → AreKept (kinds b.records)
+  pub call_counted : (limits : Capacity) (choice : MemberChoice) (now : ℕ) (call : Call) (b : Broker) → Orders b → AreKept (kinds b.records)
       → Enters (deeds limits choice now call b) (kinds b.records) (kinds (stepped limits choice now call b).records)
   call_counted limits choice now call b h k =
       let env = env_of limits choice b in
@@ -310,7 +310,7 @@ module _ (c : CopyId) where
       subst (Enters ds (kinds b.records)) (sym (kinds_done (rows_of_all ds a.records) (after_all ds a))) (call_says env whatever Orders Counted (counting env) call (λ n packet e. tt) a h k)
 
   -- what enters by an opening is counted off
-  pub opening_counted : (limits : Limits) (choice : MemberChoice) (now : ℕ) (b : Broker) → Orders b → AreKept (kinds b.records)
+  pub opening_counted : (limits : Capacity) (choice : MemberChoice) (now : ℕ) (b : Broker) → Orders b → AreKept (kinds b.records)
       → Enters (opening (env_of limits choice (unopened now b.records)) (unopened now b.records)) (kinds b.records) (kinds (opened limits choice now b.records).records)
   opening_counted limits choice now b h k =
       let a = unopened now b.records in

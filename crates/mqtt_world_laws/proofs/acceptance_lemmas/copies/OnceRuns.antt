@@ -4,7 +4,7 @@ use Rattle.std.proofs.lemmas.Bool.{cases_Bool}
 use Rattle.mqtt_base.specs.declared.session.Cause.TheVariants.{Direct}
 use Rattle.mqtt_base.specs.declared.session.CopyId.{CopyId}
 use Rattle.mqtt_records.specs.declared.state.records.Records.{Records}
-use Rattle.mqtt_rules.specs.declared.step.Limits.{Limits}
+use Rattle.mqtt_rules.specs.declared.step.Capacity.{Capacity}
 use Rattle.mqtt_rules.specs.step.Deeds.{Deed}
 use Rattle.mqtt_rules.specs.step.Laws.{AreWithin, IsCoherent, IsCoherentMessage}
 use Rattle.mqtt_rules.specs.step.State.{Broker, MemberChoice}
@@ -26,7 +26,7 @@ module _ (c : CopyId) where
   Counts ds b d = AreKept (kinds b.records) → Enters c ds (kinds b.records) (kinds d.records)
 
   -- a copy enters as long as it may come, and not later
-  pub counts : (limits : Limits) → Walk limits Counts
+  pub counts : (limits : Capacity) → Walk limits Counts
   counts limits = record {
     none = λ b k. let zero : E c [] ≡ 0 = refl in record { counted = omega (arith, zero); kept = k };
     next = λ xs ys a b d p q k. let first = p k in enters_next c xs ys (kinds a.records) (kinds b.records) (kinds d.records) first (q first.kept);
@@ -60,7 +60,7 @@ one_or_other c r apart = elim (cases_Bool (may_come c r)) [
 
 -- ---- a run
 
-module _ (limits : Limits) (ts : List Turn) (w : World) (new : IsNew w) (fair : IsCounted limits ts w) (apart : TellsApart w.broker.records) (c : CopyId) where
+module _ (limits : Capacity) (ts : List Turn) (w : World) (new : IsNew w) (fair : IsCounted limits ts w) (apart : TellsApart w.broker.records) (c : CopyId) where
   -- a copy that may come yet has not entered, and it could come at the beginning
   pub counted : count_of c (entered_from limits ts w) + U c (kinds (run limits ts w).broker.records) ≤ U c (kinds w.broker.records)
   counted = (run_walks (Counts c) limits ts w (counts c limits) new fair (coherent_kept w.broker.records new.steady.coherent apart)).counted
@@ -92,7 +92,7 @@ pub start_apart : TellsApart start.broker.records
 start_apart = record { once = λ c. let none : count_of c (queued_in start.broker.records) ≡ 0 = refl in omega (arith, none); numbered = λ c e. refl; retained = tt }
 
 -- so they are behind an opening
-pub opened_apart : (limits : Limits) (choice : MemberChoice) (now : ℕ) (r : Records) → AreWithin limits → MayOpen limits choice now r → TellsApart r → TellsApart (opened_world limits choice now r).broker.records
+pub opened_apart : (limits : Capacity) (choice : MemberChoice) (now : ℕ) (r : Records) → AreWithin limits → MayOpen limits choice now r → TellsApart r → TellsApart (opened_world limits choice now r).broker.records
 opened_apart limits choice now r within may apart = record {
   once = λ c. let x = after c in omega (arith, x);
   numbered = λ c e. let x = after c in let one : U c (kinds new.records) ≡ 1 = rw e refl in omega (arith, x, one);

@@ -8,7 +8,7 @@ use Rattle.mqtt_records.specs.declared.messages.message.MessageCopy.{MessageCopy
 use Rattle.mqtt_records.specs.declared.messages.message.RetainedMessage.{RetainedMessage}
 use Rattle.mqtt_records.specs.declared.state.session.Session.{Session}
 use Rattle.mqtt_records.specs.declared.state.records.Records.{Records}
-use Rattle.mqtt_rules.specs.declared.step.Limits.{Limits}
+use Rattle.mqtt_rules.specs.declared.step.Capacity.{Capacity}
 use Rattle.mqtt_rules.specs.step.Packets.{publish_of}
 use Rattle.mqtt_rules.specs.step.State.{Broker, Env, session_at, line_of, queue_on}
 use Rattle.mqtt_rules.specs.step.Deeds.{whose, Message, Origin, Enter, Deed, Accept, Begin, Name, Count, At, Finish, Keep, Forget, RefuseWill, Link, On, Send, Gone, after, after_all, always, series, with_session}
@@ -214,7 +214,7 @@ event_routed (stop_before a) set w = opening_routed set (before set a w)
 event_routed (stop_after a) set w = routed_append (read_first the_acceptances set a w) (read_opening the_acceptances set (first_step set a w)) (first_routed a set w) (opening_routed set (first_step set a w))
 
 -- in every run copies are routed as the definition says
-pub run_routed : (limits : Limits) (ts : List Turn) (w : World) → AreRouted limits ts w
+pub run_routed : (limits : Capacity) (ts : List Turn) (w : World) → AreRouted limits ts w
 run_routed limits [] w = tt
 run_routed limits (t ∷ ts) w =
     routed_append (cond (is_bad t.event w) [] (read_in the_acceptances (setting limits t) t.event w)) (acceptances_over limits ts (turned limits t w)) (by (is_bad t.event w)) (run_routed limits ts (turned limits t w))

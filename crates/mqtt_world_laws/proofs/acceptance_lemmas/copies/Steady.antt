@@ -1,7 +1,7 @@
 -- What holds of the broker after each step in which no number is spent; and the numbers of its lines never fall.
 use Rattle.std.proofs.Common.{◌≡◌, ℕ, suc, ◌≤◌, Bool, true, false, cond, List, [], ◌∷◌, refl, sym, subst, arith}
 use Rattle.mqtt_records.specs.declared.state.records.Records.{Records}
-use Rattle.mqtt_rules.specs.declared.step.Limits.{Limits}
+use Rattle.mqtt_rules.specs.declared.step.Capacity.{Capacity}
 use Rattle.mqtt_rules.specs.step.State.{MemberChoice, Broker, Env}
 use Rattle.mqtt_rules.specs.step.Deeds.{Deed, Link, given_after, after_all, rows_of_all}
 use Rattle.mqtt_rules.specs.step.Laws.{AreWithin}
@@ -22,11 +22,11 @@ pub order_of : (b : Broker) → IsSteady b → IsInOrder b
 order_of b s = record { sessions = s.coherent.ordered.sessions.ascending; births = s.coherent.births; lines = s.lines }
 
 -- and so is what a client with a place asks of it
-pub sound_of : (limits : Limits) (client : List ℕ) (b : Broker) → AreWithin limits → IsSteady b → HasPlace limits client b.records → IsSound limits client b
+pub sound_of : (limits : Capacity) (client : List ℕ) (b : Broker) → AreWithin limits → IsSteady b → HasPlace limits client b.records → IsSound limits client b
 sound_of limits client b within s place = record { order = order_of b s; place = place; within = within.sessions }
 
 -- a step that spends nothing leaves a broker steady
-pub steady_step : (limits : Limits) (choice : MemberChoice) (now : ℕ) (call : Call) (b : Broker)
+pub steady_step : (limits : Capacity) (choice : MemberChoice) (now : ℕ) (call : Call) (b : Broker)
     → AreWithin limits → IsSteady b → is_step_spent limits choice now call b ≡ false
     → IsSteady (stepped limits choice now call b)
 steady_step limits choice now call b within s unspent = record {
@@ -37,7 +37,7 @@ steady_step limits choice now call b within s unspent = record {
 }
 
 -- so does an opening of what may be opened
-pub steady_opened : (limits : Limits) (choice : MemberChoice) (now : ℕ) (r : Records)
+pub steady_opened : (limits : Capacity) (choice : MemberChoice) (now : ℕ) (r : Records)
     → AreWithin limits → MayOpen limits choice now r → IsSteady (opened limits choice now r)
 steady_opened limits choice now r within h = record {
   coherent = opening_coherent limits choice now r within h.coherent h.unspent;
@@ -47,7 +47,7 @@ steady_opened limits choice now r within h = record {
 }
 
 -- and one of what a steady broker left
-pub steady_again : (limits : Limits) (choice : MemberChoice) (now : ℕ) (b : Broker)
+pub steady_again : (limits : Capacity) (choice : MemberChoice) (now : ℕ) (b : Broker)
     → AreWithin limits → IsSteady b → is_opening_spent limits choice now b.records ≡ false
     → IsSteady (opened limits choice now b.records)
 steady_again limits choice now b within s unspent =
@@ -63,9 +63,9 @@ steady_start = record {
 }
 
 -- a new line spends no number
-pub linking_spends_none : (limits : Limits) (choice : MemberChoice) (now : ℕ) (b : Broker)
+pub linking_spends_none : (limits : Capacity) (choice : MemberChoice) (now : ℕ) (b : Broker)
     → is_step_spent limits choice now NewLine b ≡ false
-linking_spends_none limits choice now b = by (can_link (at_moment now b))
+linking_spends_none limits choice now b = by (can_link limits (at_moment now b))
   where
     by : (t : Bool) → is_spent (rows_written (cond t (Link (suc b.given) ∷ []) []) (at_moment now b)) ≡ false
     by true = refl
@@ -110,7 +110,7 @@ growing g env = record {
 }
 
 -- line numbers do not fall
-pub given_grows : (limits : Limits) (choice : MemberChoice) (now : ℕ) (call : Call) (b : Broker)
+pub given_grows : (limits : Capacity) (choice : MemberChoice) (now : ℕ) (call : Call) (b : Broker)
     → b.given ≤ (stepped limits choice now call b).given
 given_grows limits choice now call b =
     let begin = at_moment now b in

@@ -4,7 +4,7 @@ use Rattle.std.specs.Prelude.{⊤, flat_map}
 use Rattle.std.specs.List.{AllByRecursion}
 use Rattle.std.proofs.lemmas.Grind.{flat_map-append}
 use Rattle.mqtt_base.specs.declared.session.CopyId.{CopyId}
-use Rattle.mqtt_rules.specs.declared.step.Limits.{Limits}
+use Rattle.mqtt_rules.specs.declared.step.Capacity.{Capacity}
 use Rattle.mqtt_rules.specs.step.State.{Broker, Env}
 use Rattle.mqtt_rules.specs.step.Deeds.{Deed}
 use Rattle.mqtt_rules.specs.step.Laws.{AreWithin}
@@ -28,7 +28,7 @@ use Rattle.mqtt_world_laws.proofs.acceptance_lemmas.publishers.Runs.{either}
 abbrev Any : List Deed → Broker → Broker → Type 0
 Any ds b d = ⊤
 
-anything : (limits : Limits) → Walk limits Any
+anything : (limits : Capacity) → Walk limits Any
 anything limits = record {
   none = λ b. tt;
   next = λ xs ys a b d p q. tt;
@@ -114,7 +114,7 @@ module _ (R : Env → List Deed → Broker → Type 0) (says : (env : Env) → S
 
   -- ---- a turn, and a run
 
-  turn_is : (limits : Limits) (t : Turn) (w : World) → AreWithin limits → IsSteady w.broker → read_at spending (setting limits t) t.event w ≡ false → Are (deeds_at (setting limits t) t.event w) (read_at the_steps (setting limits t) t.event w)
+  turn_is : (limits : Capacity) (t : Turn) (w : World) → AreWithin limits → IsSteady w.broker → read_at spending (setting limits t) t.event w ≡ false → Are (deeds_at (setting limits t) t.event w) (read_at the_steps (setting limits t) t.event w)
   turn_is limits t w within s unspent = by (is_bad t.event w) unspent
     where
       set : Setting
@@ -124,7 +124,7 @@ module _ (R : Env → List Deed → Broker → Type 0) (says : (env : Env) → S
       by true u = none_are
       by false u = happened set within t.event w s u
 
-  all_are : (limits : Limits) (ts : List Turn) (w : World) → AreWithin limits → IsSteady w.broker → run_spends limits ts w ≡ false → Are (deeds_over limits ts w) (steps_over limits ts w)
+  all_are : (limits : Capacity) (ts : List Turn) (w : World) → AreWithin limits → IsSteady w.broker → run_spends limits ts w ≡ false → Are (deeds_over limits ts w) (steps_over limits ts w)
   all_are limits [] w within s unspent = none_are
   all_are limits (t ∷ ts) w within s unspent =
       let v = turned limits t w in
@@ -133,7 +133,7 @@ module _ (R : Env → List Deed → Broker → Type 0) (says : (env : Env) → S
       both_are (deeds_at (setting limits t) t.event w) (deeds_over limits ts v) (read_at the_steps (setting limits t) t.event w) (steps_over limits ts v)
       (turn_is limits t w within s costs.0) (all_are limits ts v within next.steady costs.1)
 
-  run_are : (limits : Limits) (ts : List Turn) (w : World) → IsNew w → IsCounted limits ts w → Are (deeds_over limits ts w) (steps_over limits ts w)
+  run_are : (limits : Capacity) (ts : List Turn) (w : World) → IsNew w → IsCounted limits ts w → Are (deeds_over limits ts w) (steps_over limits ts w)
   run_are limits ts w new fair = all_are limits ts w fair.within new.steady fair.unspent
 
 -- ---- exactly the copies that its deeds bring enter
@@ -150,7 +150,7 @@ entered_all (x ∷ xs) h =
     ∙ ap (λ (cs : List CopyId). brought_in x ++ cs) (entered_all xs h.1)
 
 -- in every run that spends no number each copy that is told of entered
-pub run_enters : (limits : Limits) (ts : List Turn) (w : World) → IsNew w → IsCounted limits ts w → IsEntered limits ts w
+pub run_enters : (limits : Capacity) (ts : List Turn) (w : World) → IsNew w → IsCounted limits ts w → IsEntered limits ts w
 run_enters limits ts w new fair =
     let x = run_are Tells telling limits ts w new fair in
     ap entered x.deeds_are ∙ entered_all (steps_over limits ts w) x.each
@@ -158,5 +158,5 @@ run_enters limits ts w new fair =
 -- ---- and what is due at once goes out
 
 -- and each that is due at once goes out
-pub run_goes_out : (limits : Limits) (ts : List Turn) (w : World) → IsNew w → IsCounted limits ts w → AllGoOut limits ts w
+pub run_goes_out : (limits : Capacity) (ts : List Turn) (w : World) → IsNew w → IsCounted limits ts w → AllGoOut limits ts w
 run_goes_out limits ts w new fair = (run_are Gives giving limits ts w new fair).each

@@ -1,7 +1,7 @@
 -- Every run of the world, by the deeds of its steps: what holds of the deeds of each call and opening holds of all of them.
 use Rattle.std.proofs.Common.{◌≡◌, ℕ, zero, suc, Bool, true, false, cond, List, [], ◌∷◌, ◌++◌, Option, Some, None, refl, sym, subst}
 use Rattle.std.specs.Prelude.{is_some}
-use Rattle.mqtt_rules.specs.declared.step.Limits.{Limits}
+use Rattle.mqtt_rules.specs.declared.step.Capacity.{Capacity}
 use Rattle.mqtt_rules.specs.step.State.{Broker, MemberChoice}
 use Rattle.mqtt_rules.specs.step.Deeds.{Deed, Link}
 use Rattle.mqtt_rules.specs.step.Laws.{AreWithin}
@@ -14,7 +14,7 @@ use Rattle.mqtt_world_laws.proofs.acceptance_lemmas.copies.Steady.{steady_step, 
 use Rattle.mqtt_world_laws.proofs.acceptance_lemmas.publishers.Runs.{either}
 
 -- what is said of deeds, with the broker before and after them: of none, of some and then others, of each call and opening
-pub record Walk (limits : Limits) (R : List Deed → Broker → Broker → Type 0) : Type 0 where
+pub record Walk (limits : Capacity) (R : List Deed → Broker → Broker → Type 0) : Type 0 where
   pub none : (b : Broker) → R [] b b
   pub next : (xs ys : List Deed) (a b d : Broker) → R xs a b → R ys b d → R (xs ++ ys) a d
   pub unlink : (n : ℕ) (b d : Broker) → R (Link n ∷ []) b d → R [] b d
@@ -25,7 +25,7 @@ pub record Walk (limits : Limits) (R : List Deed → Broker → Broker → Type 
       → R (opening (env_of limits choice (unopened now b.records)) (unopened now b.records)) b (opened limits choice now b.records)
 
 -- from one world to another, by these deeds
-pub record Steps (limits : Limits) (R : List Deed → Broker → Broker → Type 0) (ds : List Deed) (w v : World) : Type 0 where
+pub record Steps (limits : Capacity) (R : List Deed → Broker → Broker → Type 0) (ds : List Deed) (w v : World) : Type 0 where
   pub steady : IsSteady v.broker
   pub said : R ds w.broker v.broker
 
@@ -54,12 +54,12 @@ module _ (R : List Deed → Broker → Broker → Type 0) (set : Setting) (walk 
   linking_goes : (w : World) → IsSteady w.broker → Goes [] w (calls set NewLine w)
   linking_goes w s =
       let x = call_goes NewLine w s (linking_spends_none set.limits set.choice w.now w.broker) in
-      record { steady = x.steady; said = by (can_link w.broker) refl x.said }
+      record { steady = x.steady; said = by (can_link set.limits w.broker) refl x.said }
     where
       new : Broker
       new = stepped set.limits set.choice w.now NewLine w.broker
 
-      by : (t : Bool) → can_link w.broker ≡ t → R (deeds set.limits set.choice w.now NewLine w.broker) w.broker new → R [] w.broker new
+      by : (t : Bool) → can_link set.limits w.broker ≡ t → R (deeds set.limits set.choice w.now NewLine w.broker) w.broker new → R [] w.broker new
       by false can h = subst (λ (t : Bool). R (cond t (Link (suc w.broker.given) ∷ []) []) w.broker new) can h
       by true can h = walk.unlink (suc w.broker.given) w.broker new (subst (λ (t : Bool). R (cond t (Link (suc w.broker.given) ∷ []) []) w.broker new) can h)
 
@@ -123,9 +123,9 @@ module _ (R : List Deed → Broker → Broker → Type 0) (set : Setting) (walk 
   -- ---- an event
 
   joins_goes : (d : List ℕ) (clean : Bool) (w : World) → IsSteady w.broker → Goes (read_if the_deeds set (Some NewLine) w) w (happens set (connect_end d clean) w)
-  joins_goes d clean w s = by (can_link w.broker) refl
+  joins_goes d clean w s = by (can_link set.limits w.broker) refl
     where
-      by : (t : Bool) → can_link w.broker ≡ t → Goes (cond (can_link w.broker) (Link (suc w.broker.given) ∷ []) []) w (links set (cond (can_link w.broker) (Some (suc w.broker.given)) None) d clean w)
+      by : (t : Bool) → can_link set.limits w.broker ≡ t → Goes (cond (can_link set.limits w.broker) (Link (suc w.broker.given) ∷ []) []) w (links set (cond (can_link set.limits w.broker) (Some (suc w.broker.given)) None) d clean w)
       by false can = subst (λ (t : Bool). Goes (cond t (Link (suc w.broker.given) ∷ []) []) w (links set (cond t (Some (suc w.broker.given)) None) d clean w)) (sym can) (still w w s refl)
       by true can =
           let x = linking_goes w s in
@@ -155,7 +155,7 @@ module _ (R : List Deed → Broker → Broker → Type 0) (set : Setting) (walk 
 -- ---- a turn, and a run
 
 -- a turn goes as its steps do
-pub turn_goes : (R : List Deed → Broker → Broker → Type 0) (limits : Limits) (walk : Walk limits R) (t : Turn) (w : World) → AreWithin limits → IsSteady w.broker → read_at spending (setting limits t) t.event w ≡ false
+pub turn_goes : (R : List Deed → Broker → Broker → Type 0) (limits : Capacity) (walk : Walk limits R) (t : Turn) (w : World) → AreWithin limits → IsSteady w.broker → read_at spending (setting limits t) t.event w ≡ false
     → Steps limits R (deeds_at (setting limits t) t.event w) w (turned limits t w)
 turn_goes R limits walk t w within s unspent = by (is_bad t.event w) unspent
   where
@@ -167,7 +167,7 @@ turn_goes R limits walk t w within s unspent = by (is_bad t.event w) unspent
     by false u = event_goes R set walk within t.event w s u
 
 -- what each step does, every run does, from whatever world, if its tables are in order
-pub run_goes : (R : List Deed → Broker → Broker → Type 0) (limits : Limits) (walk : Walk limits R) (ts : List Turn) (w : World) → AreWithin limits → IsSteady w.broker → run_spends limits ts w ≡ false
+pub run_goes : (R : List Deed → Broker → Broker → Type 0) (limits : Capacity) (walk : Walk limits R) (ts : List Turn) (w : World) → AreWithin limits → IsSteady w.broker → run_spends limits ts w ≡ false
     → Steps limits R (deeds_over limits ts w) w (run limits ts w)
 run_goes R limits walk [] w within s unspent = record { steady = s; said = walk.none w.broker }
 run_goes R limits walk (t ∷ ts) w within s unspent =
@@ -180,9 +180,9 @@ run_goes R limits walk (t ∷ ts) w within s unspent =
     record { steady = rest.steady; said = walk.next xs ys w.broker v.broker (run limits ts v).broker first.said rest.said }
 
 -- a fair run spends no number
-pub counted : (limits : Limits) (ts : List Turn) (w : World) → IsFair limits ts w → IsCounted limits ts w
+pub counted : (limits : Capacity) (ts : List Turn) (w : World) → IsFair limits ts w → IsCounted limits ts w
 counted limits ts w fair = record { within = fair.within; unspent = fair.unspent }
 
 -- what each step keeps, every run keeps that spends no number
-pub run_walks : (R : List Deed → Broker → Broker → Type 0) (limits : Limits) (ts : List Turn) (w : World) → Walk limits R → IsNew w → IsCounted limits ts w → R (deeds_over limits ts w) w.broker (run limits ts w).broker
+pub run_walks : (R : List Deed → Broker → Broker → Type 0) (limits : Capacity) (ts : List Turn) (w : World) → Walk limits R → IsNew w → IsCounted limits ts w → R (deeds_over limits ts w) w.broker (run limits ts w).broker
 run_walks R limits ts w walk new fair = (run_goes R limits walk ts w fair.within new.steady fair.unspent).said

@@ -15,7 +15,7 @@ use Rattle.mqtt_packet.specs.codec.Publish.{delivery_at, publish_at}
 use Rattle.mqtt_packet.specs.codec.Frames.{frame_at, body_at, versioned_at, lawful_at, packet_at}
 use Rattle.mqtt_packet.specs.stream.Front.{size_at, first_of}
 use Rattle.mqtt_flow.specs.inbound.Publisher.{ended, refused}
-use Rattle.mqtt_rules.specs.declared.step.Limits.{Limits}
+use Rattle.mqtt_rules.specs.declared.step.Capacity.{Capacity}
 use Rattle.mqtt_rules.proofs.step_lemmas.examples.Play.{usual, bytes}
 use Rattle.mqtt_world_model.specs.model.Ends.{Publisher}
 use Rattle.mqtt_world_model.specs.model.World.{Event, publisher, receiver, publish, ask, stranger, publisher_named, start}
@@ -25,7 +25,7 @@ use Rattle.mqtt_world_laws.specs.acceptance.Copies.{entered_from}
 use Rattle.mqtt_world_laws.specs.acceptance.Entries.{brought_from}
 
 -- a queue holds one copy
-abbrev small : Limits
+abbrev small : Capacity
 small = record usual { queue = 1 }
 
 abbrev s1 : List ℕ

@@ -4,7 +4,7 @@ use Rattle.std.proofs.Common.{◌≡◌, ℕ, ◌≤◌, true, false, ◌⊎◌,
 use Rattle.std.specs.Prelude.{⊤, find, option_map, is_some}
 use Rattle.std.specs.List.{AllByRecursion}
 use Rattle.mqtt_flow.specs.inbound.InboundWorld.{Event as HopEvent, run}
-use Rattle.mqtt_rules.specs.declared.step.Limits.{Limits}
+use Rattle.mqtt_rules.specs.declared.step.Capacity.{Capacity}
 use Rattle.mqtt_rules.specs.step.State.{Broker}
 use Rattle.mqtt_rules.specs.step.Laws.{IsAmong, AreWithin}
 use Rattle.mqtt_rules.specs.step.Step.{Call, NewLine, Input, BadInput, Lost, Pump, Tick, stepped, told}
@@ -49,7 +49,7 @@ abbrev pub OtherStranger : List ℕ → ℕ → Stranger → Type 0
 OtherStranger his given s = IsFree his given s.number
 
 -- his : the numbers of the lines that the publisher had, and 0, which no line has
-pub record Around (c : List ℕ) (limits : Limits) (his : List ℕ) (w : World) : Type 0 where
+pub record Around (c : List ℕ) (limits : Capacity) (his : List ℕ) (w : World) : Type 0 where
   pub within : AreWithin limits
   pub steady : IsSteady w.broker
   pub known : (j : ℕ) → IsAmong j his → j ≤ w.broker.given
@@ -80,19 +80,19 @@ Him his b accepted None = accepted ≡ []
 Him his b accepted (Some p) = Placed his p b accepted
 
 -- all that holds of the world, with the publisher
-pub record Holds (c : List ℕ) (limits : Limits) (his accepted : List ℕ) (w : World) : Type 0 where
+pub record Holds (c : List ℕ) (limits : Capacity) (his accepted : List ℕ) (w : World) : Type 0 where
   pub around : Around c limits his w
   pub him : Him his w.broker accepted (publisher_named c w)
 
 -- what a run of the world keeps, with the numbers of the publisher's lines
-pub record Stays (c : List ℕ) (limits : Limits) (accepted : List ℕ) (w : World) : Type 0 where
+pub record Stays (c : List ℕ) (limits : Capacity) (accepted : List ℕ) (w : World) : Type 0 where
   pub his : List ℕ
   pub holds : Holds c limits his accepted w
 
 -- ---- all ends changed
 
 -- ends that change leave the world around the publisher as it was
-pub around_mapped : (c : List ℕ) (limits : Limits) (his new_his : List ℕ) (w : World) (b : Broker) (now : ℕ) (f : Publisher → Publisher) (g : Receiver → Receiver) (ss : List Stranger)
+pub around_mapped : (c : List ℕ) (limits : Capacity) (his new_his : List ℕ) (w : World) (b : Broker) (now : ℕ) (f : Publisher → Publisher) (g : Receiver → Receiver) (ss : List Stranger)
     → Around c limits his w → IsSteady b → (HasPlace limits c w.broker.records → HasPlace limits c b.records)
     → ((j : ℕ) → IsAmong j new_his → j ≤ b.given) → IsAmong 0 new_his
     → ((p : Publisher) → (f p).client ≡ p.client) → ((r : Receiver) → (g r).client ≡ r.client)

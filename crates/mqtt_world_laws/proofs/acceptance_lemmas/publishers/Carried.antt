@@ -10,7 +10,7 @@ use Rattle.mqtt_packet.specs.declared.codec.publish.Delivery.TheVariants as deli
 use Rattle.mqtt_flow.specs.inbound.Publisher.{CONNECT, PUBLISH_1, PUBLISH_2, PUBREL}
 use Rattle.mqtt_records.specs.declared.state.session.Session.{Session}
 use Rattle.mqtt_records.specs.state.Session.{birth_of}
-use Rattle.mqtt_rules.specs.declared.step.Limits.{Limits}
+use Rattle.mqtt_rules.specs.declared.step.Capacity.{Capacity}
 use Rattle.mqtt_rules.specs.step.State.{Line as BrokerLine, Broker, line_at, session_at}
 use Rattle.mqtt_rules.specs.step.Deeds.{Message, Deed}
 use Rattle.mqtt_rules.specs.step.Step.{Input, deeds, unopened, env_of}
@@ -231,7 +231,7 @@ event_says (stop_after a) c set his accepted from w h t = let v = first_step set
 -- ---- a turn, and a run
 
 -- what is kept besides, with where the publisher is
-pub record Told (c : List ℕ) (limits : Limits) (accepted : List ℕ) (from : List From) (w : World) : Type 0 where
+pub record Told (c : List ℕ) (limits : Capacity) (accepted : List ℕ) (from : List From) (w : World) : Type 0 where
   pub stays : Stays c limits accepted w
   pub tells : Tells (publisher_named c w) from
 
@@ -271,14 +271,14 @@ event_tells (stop_before a) c set w from good t = tells_moved _ _ from (event_mo
 event_tells (stop_after a) c set w from good t = tells_moved _ _ from (event_moved c set (stop_after a) w (λ x f. absurd cc)) t
 
 -- what a turn accepts
-abbrev from_at : List ℕ → Limits → Turn → World → List From
+abbrev from_at : List ℕ → Capacity → Turn → World → List From
 from_at c limits t w = each_from (message_read c t.event w) (deeds_at (setting limits t) t.event w)
 
 none_from_none : (o : Option ℕ) → each_from o [] ≡ []
 none_from_none None = refl
 none_from_none (Some n) = refl
 
-turn_tells : (t : Turn) (c : List ℕ) (limits : Limits) (accepted : List ℕ) (from : List From) (w : World) → Told c limits accepted from w
+turn_tells : (t : Turn) (c : List ℕ) (limits : Capacity) (accepted : List ℕ) (from : List From) (w : World) → Told c limits accepted from w
     → Tells (publisher_named c (turned limits t w)) (from ++ from_at c limits t w)
 turn_tells t c limits accepted from w h = by (is_bad t.event w) refl
   where
@@ -291,7 +291,7 @@ turn_tells t c limits accepted from w h = by (is_bad t.event w) refl
         let says = event_says t.event c set h.stays.his accepted from w h.stays.holds h.tells in
         event_tells t.event c set w (from ++ each_from (message_read c t.event w) (read_in the_deeds set t.event w)) is (tells_more (publisher_named c w) from _ h.tells says)
 
-run_tells : (ts : List Turn) (c : List ℕ) (limits : Limits) (accepted : List ℕ) (from : List From) (w : World) → Told c limits accepted from w → run_spends limits ts w ≡ false → are_beginnings_clean limits ts w ≡ true
+run_tells : (ts : List Turn) (c : List ℕ) (limits : Capacity) (accepted : List ℕ) (from : List From) (w : World) → Told c limits accepted from w → run_spends limits ts w ≡ false → are_beginnings_clean limits ts w ≡ true
     → Tells (publisher_named c (run limits ts w)) (from ++ from_over c limits ts w)
 run_tells [] c limits accepted from w h unspent carried = subst (λ (xs : List From). Tells (publisher_named c w) xs) (sym (append-nil from)) h.tells
 run_tells (t ∷ ts) c limits accepted from w h unspent carried =
@@ -306,7 +306,7 @@ run_tells (t ∷ ts) c limits accepted from w h unspent carried =
 -- ---- from the beginning
 
 -- in every fair run what is accepted was sent so
-pub all_carried : (limits : Limits) (ts : List Turn) (w : World) → IsNew w → IsFair limits ts w → (c : List ℕ) → HasCarried c limits ts w
+pub all_carried : (limits : Capacity) (ts : List Turn) (w : World) → IsNew w → IsFair limits ts w → (c : List ℕ) → HasCarried c limits ts w
 all_carried limits ts w new fair c =
     let nobody : publisher_named c w ≡ None = ap (find (λ (p : Publisher). bytes_eq p.client c)) new.publishers in
     let first : Told c limits [] [] w = record {

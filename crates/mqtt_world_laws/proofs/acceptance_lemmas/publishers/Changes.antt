@@ -4,7 +4,7 @@ use Rattle.std.specs.Prelude.{option_map, find, is_some}
 use Rattle.std.specs.List.{AllByRecursion}
 use Rattle.std.proofs.lemmas.Bool.{cases_Bool}
 use Rattle.std.proofs.lemmas.Slice.Eq.{bytes_eq-Decides}
-use Rattle.mqtt_rules.specs.declared.step.Limits.{Limits}
+use Rattle.mqtt_rules.specs.declared.step.Capacity.{Capacity}
 use Rattle.mqtt_world_model.specs.model.Lines.{Line}
 use Rattle.mqtt_world_model.specs.model.Ends.{Sent, Publisher, Receiver, Back}
 use Rattle.mqtt_world_model.specs.model.World.{World, publisher_named, with_publisher, with_receiver, with_line}
@@ -22,7 +22,7 @@ KeepsName f = (p : Publisher) → (f p).client ≡ p.client
 abbrev pub KeepsTheName : (Receiver → Receiver) → Type 0
 KeepsTheName g = (r : Receiver) → (g r).client ≡ r.client
 
-module _ (c d : List ℕ) (limits : Limits) (his : List ℕ) (w : World) (f : Publisher → Publisher) (g : Receiver → Receiver) (f_same : KeepsName f) (g_same : KeepsTheName g) (a : Around c limits his w) where
+module _ (c d : List ℕ) (limits : Capacity) (his : List ℕ) (w : World) (f : Publisher → Publisher) (g : Receiver → Receiver) (f_same : KeepsName f) (g_same : KeepsTheName g) (a : Around c limits his w) where
   abbrev F : Publisher → Publisher
   F p = cond (bytes_eq p.client d) (f p) p
 
@@ -56,7 +56,7 @@ module _ (c d : List ℕ) (limits : Limits) (his : List ℕ) (w : World) (f : Pu
 -- ---- another
 
 -- a change of an end leaves the world around the publisher
-pub end_around : (c d : List ℕ) (limits : Limits) (his : List ℕ) (w : World) (f : Publisher → Publisher) (g : Receiver → Receiver) → KeepsName f → KeepsTheName g
+pub end_around : (c d : List ℕ) (limits : Capacity) (his : List ℕ) (w : World) (f : Publisher → Publisher) (g : Receiver → Receiver) → KeepsName f → KeepsTheName g
     → ((p : Publisher) → HasFree his w.broker.given p.line → HasFree his w.broker.given (f p).line)
     → ((r : Receiver) → HasFree his w.broker.given r.line → HasFree his w.broker.given (g r).line)
     → Around c limits his w → Around c limits his (with_end d f g w)
@@ -74,7 +74,7 @@ end_around c d limits his w f g f_same g_same f_free g_free a =
     receiver_other false r h = h
 
 -- a change of another end leaves the publisher in step
-pub end_others : (c d : List ℕ) (limits : Limits) (his accepted : List ℕ) (w : World) (f : Publisher → Publisher) (g : Receiver → Receiver) → KeepsName f → KeepsTheName g
+pub end_others : (c d : List ℕ) (limits : Capacity) (his accepted : List ℕ) (w : World) (f : Publisher → Publisher) (g : Receiver → Receiver) → KeepsName f → KeepsTheName g
     → ((p : Publisher) → HasFree his w.broker.given p.line → HasFree his w.broker.given (f p).line)
     → ((r : Receiver) → HasFree his w.broker.given r.line → HasFree his w.broker.given (g r).line)
     → IsNotHim c d w → Holds c limits his accepted w → Holds c limits his accepted (with_end d f g w)
@@ -91,7 +91,7 @@ abbrev pub on_back : (Line Back → Line Back) → Receiver → Receiver
 on_back g r = record r { line = g r.line }
 
 -- so does a change of another's line
-pub line_others : (c d : List ℕ) (limits : Limits) (his accepted : List ℕ) (w : World) (f : Line Sent → Line Sent) (g : Line Back → Line Back)
+pub line_others : (c d : List ℕ) (limits : Capacity) (his accepted : List ℕ) (w : World) (f : Line Sent → Line Sent) (g : Line Back → Line Back)
     → ((l : Line Sent) → HasFree his w.broker.given l → HasFree his w.broker.given (f l)) → ((l : Line Back) → HasFree his w.broker.given l → HasFree his w.broker.given (g l))
     → IsNotHim c d w → Holds c limits his accepted w → Holds c limits his accepted (with_line d f g w)
 line_others c d limits his accepted w f g f_free g_free not_him h =
@@ -110,7 +110,7 @@ nobody_changed his given c g (r ∷ rs) none a = elim (cases_Bool (bytes_eq r.cl
 ]
 
 -- a change of the publisher's own leaves the world around it
-pub own_around : (c : List ℕ) (limits : Limits) (his : List ℕ) (w : World) (p : Publisher) (f : Publisher → Publisher) (g : Receiver → Receiver) → KeepsName f → KeepsTheName g
+pub own_around : (c : List ℕ) (limits : Capacity) (his : List ℕ) (w : World) (p : Publisher) (f : Publisher → Publisher) (g : Receiver → Receiver) → KeepsName f → KeepsTheName g
     → publisher_named c w ≡ Some p → Around c limits his w → Around c limits his (with_end c f g w)
 own_around c limits his w p f g f_same g_same e a =
     end_changed c c limits his w f g f_same g_same a (λ q. other (bytes_eq q.client c) q refl)
@@ -121,7 +121,7 @@ own_around c limits his w p f g f_same g_same e a =
     other false q its h = h
 
 -- and the publisher in step, if it is placed behind that
-pub own_holds : (c : List ℕ) (limits : Limits) (his accepted : List ℕ) (w : World) (p : Publisher) (f : Publisher → Publisher) (g : Receiver → Receiver) → KeepsName f → KeepsTheName g
+pub own_holds : (c : List ℕ) (limits : Capacity) (his accepted : List ℕ) (w : World) (p : Publisher) (f : Publisher → Publisher) (g : Receiver → Receiver) → KeepsName f → KeepsTheName g
     → publisher_named c w ≡ Some p → Around c limits his w → Placed his (f p) w.broker accepted → Holds c limits his accepted (with_end c f g w)
 own_holds c limits his accepted w p f g f_same g_same e a placed = record {
   around = own_around c limits his w p f g f_same g_same e a;

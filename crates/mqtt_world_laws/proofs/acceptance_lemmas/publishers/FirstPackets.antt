@@ -3,7 +3,7 @@ use Rattle.std.proofs.Common.{◌≡◌, ℕ, Bool, false, cond, List, [], ◌�
 use Rattle.std.specs.Prelude.{option_map, is_some}
 use Rattle.std.proofs.lemmas.Bool.{cases_Bool}
 use Rattle.std.proofs.lemmas.Slice.Eq.{bytes_eq-Decides}
-use Rattle.mqtt_rules.specs.declared.step.Limits.{Limits}
+use Rattle.mqtt_rules.specs.declared.step.Capacity.{Capacity}
 use Rattle.mqtt_rules.specs.step.State.{Broker}
 use Rattle.mqtt_rules.specs.step.Deeds.{Deed}
 use Rattle.mqtt_rules.specs.step.Step.{Input, stepped, told, deeds}
@@ -116,7 +116,7 @@ empty_up l e = ap (λ (xs : List Sent). record l { up = xs }) (ap (drop 1) e ∙
 empty_old : (l : Line Sent) → l.old ≡ [] → taken_old l ≡ l
 empty_old l e = ap (λ (xs : List Sent). record l { old = xs }) (ap (drop 1) e ∙ sym e)
 
-his_place : (c : List ℕ) (limits : Limits) (his : List ℕ) (w : World) (p : Publisher) → Around c limits his w → publisher_named c w ≡ Some p → HasPlace limits p.client w.broker.records
+his_place : (c : List ℕ) (limits : Capacity) (his : List ℕ) (w : World) (p : Publisher) → Around c limits his w → publisher_named c w ≡ Some p → HasPlace limits p.client w.broker.records
 his_place c limits his w p a e = subst (λ (x : List ℕ). HasPlace limits x w.broker.records) (sym (named_publisher c p w e)) (a.place (ap is_some e))
 
 -- a packet on the publisher's line is on its side
@@ -158,7 +158,7 @@ asked_none c d w f none not_him = elim (cases_Bool (bytes_eq d c)) [
     by (Some p) e is = absurd (not_him (ap is_some e) is)
 
 -- no message of the publisher's is accepted
-pub none_accepted : (c : List ℕ) (limits : Limits) (his accepted : List ℕ) (w : World) (o : Option ℕ) (ds : List Deed) → o ≡ None → Holds c limits his accepted w → Holds c limits his (accepted ++ each_of o ds) w
+pub none_accepted : (c : List ℕ) (limits : Capacity) (his accepted : List ℕ) (w : World) (o : Option ℕ) (ds : List Deed) → o ≡ None → Holds c limits his accepted w → Holds c limits his (accepted ++ each_of o ds) w
 none_accepted c limits his accepted w o ds e h = subst (λ (ns : List ℕ). Holds c limits his ns w) (sym (ap (λ (x : Option ℕ). accepted ++ each_of x ds) e ∙ append-nil accepted)) h
 
 -- the broker's reading of the publisher's line leaves it in step

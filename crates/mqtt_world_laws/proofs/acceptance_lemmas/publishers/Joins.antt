@@ -24,7 +24,7 @@ use Rattle.mqtt_world_laws.proofs.acceptance_lemmas.publishers.Strangers.{linkin
 
 -- ---- another
 
-module _ (c d : List ℕ) (clean : Bool) (set : Setting) (accepted : List ℕ) (w : World) (can : can_link w.broker ≡ true) where
+module _ (c d : List ℕ) (clean : Bool) (set : Setting) (accepted : List ℕ) (w : World) (can : can_link set.limits w.broker ≡ true) where
   abbrev next : ℕ
   next = suc w.broker.given
 
@@ -79,7 +79,7 @@ module _ (c d : List ℕ) (clean : Bool) (set : Setting) (accepted : List ℕ) (
   his_joins his p h e is_away_ carried =
       let out = told set.limits set.choice w.now NewLine w.broker in
       let placed = subst (Him his w.broker accepted) e h.him in
-      let may : MayJoin clean p w.broker = record { can = can; given = h.around.steady.lines.given; away = is_away_; carried = carried } in
+      let may : MayJoin set.limits clean p w.broker = record { can = can; given = h.around.steady.lines.given; away = is_away_; carried = carried } in
       let x = joins set.limits set.choice w.now clean placed.birth placed.line p w.broker accepted placed.seat placed.named may in
       record {
         his = next ∷ his;
@@ -121,9 +121,9 @@ so_clean false false h is = absurd cc
 -- an end that connects leaves the publisher in step
 pub joined_stays : (c d : List ℕ) (clean : Bool) (set : Setting) (accepted : List ℕ) (w : World) → Stays c set.limits accepted w → is_bad (connect_end d clean) w ≡ false → begins_clean (connect_end d clean) w ≡ true
     → Stays c set.limits accepted (happens set (connect_end d clean) w)
-joined_stays c d clean set accepted w stay good carried = by (can_link w.broker) refl
+joined_stays c d clean set accepted w stay good carried = by (can_link set.limits w.broker) refl
   where
-    by : (t : Bool) → can_link w.broker ≡ t → Stays c set.limits accepted (links set (cond t (Some (suc w.broker.given)) None) d clean w)
+    by : (t : Bool) → can_link set.limits w.broker ≡ t → Stays c set.limits accepted (links set (cond t (Some (suc w.broker.given)) None) d clean w)
     by false can = stay
     by true can = elim (whose_name c d w) [
       | inr not_him ↦ other_joins c d clean set accepted w can stay.his stay.holds not_him

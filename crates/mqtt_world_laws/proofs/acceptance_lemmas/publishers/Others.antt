@@ -5,7 +5,7 @@ use Rattle.std.specs.List.{AllByRecursion}
 use Rattle.mqtt_packet.specs.declared.codec.packet.Packet.{Packet}
 use Rattle.mqtt_flow.specs.inbound.Publisher.{CONNECT, PUBLISH_1, PUBLISH_2, PUBREL}
 use Rattle.mqtt_flow.specs.outbound.Receiver.{connect, puback, pubrec, pubcomp}
-use Rattle.mqtt_rules.specs.declared.step.Limits.{Limits}
+use Rattle.mqtt_rules.specs.declared.step.Capacity.{Capacity}
 use Rattle.mqtt_rules.specs.step.Step.{Call, Input, Lost}
 use Rattle.mqtt_world_model.specs.model.Ends.{Content, Sent, shake, plain, Publisher, Receiver, Back, answers, asks_for, wire, wire_back}
 use Rattle.mqtt_world_model.specs.model.World.{World, publisher_named, receiver_named, input_on, lost_on, View, view_by, view_of}
@@ -63,7 +63,7 @@ foreign_of c d Out given w differ ps rs = by (publisher_named d w) (receiver_nam
     by None None e f = record { number = λ n is. absurd cc; up = tt; old_number = λ n is. absurd cc; old = tt }
 
 -- in the eyes of the publisher
-pub foreign : (c d : List ℕ) (limits : Limits) (his : List ℕ) (w : World) → Around c limits his w → (d ≡ c → ⊥) → IsForeign c (IsOutOf his) w.broker.given (view_of d w)
+pub foreign : (c d : List ℕ) (limits : Capacity) (his : List ℕ) (w : World) → Around c limits his w → (d ≡ c → ⊥) → IsForeign c (IsOutOf his) w.broker.given (view_of d w)
 foreign c d limits his w a differ =
     foreign_of c d (IsOutOf his) w.broker.given w differ
     (λ p e. elim (all_find (OtherPublisher c his w.broker.given) (λ (z : Publisher). bytes_eq z.client d) p w.publishers a.publishers e).0 [

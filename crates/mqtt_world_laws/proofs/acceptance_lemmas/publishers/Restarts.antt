@@ -1,7 +1,7 @@
 -- The broker restarts, or stops before or after a commit and restarts (MQTT 5.0, 4.1).
 use Rattle.std.proofs.Common.{◌≡◌, ℕ, ◌≤◌, Bool, true, false, cond, List, [], ◌∷◌, ◌++◌, map, Option, Some, None, bytes_eq, refl, sym, ap, subst, ◌∙◌, append-nil, arith, inl, inr}
 use Rattle.std.specs.Prelude.{⊤, option_map, filter_map, is_some}
-use Rattle.mqtt_rules.specs.declared.step.Limits.{Limits}
+use Rattle.mqtt_rules.specs.declared.step.Capacity.{Capacity}
 use Rattle.mqtt_rules.specs.step.State.{Broker}
 use Rattle.mqtt_rules.specs.step.Deeds.{Deed}
 use Rattle.mqtt_rules.specs.step.Laws.{IsAmong}
@@ -38,7 +38,7 @@ RestsAs b accepted None = accepted ≡ []
 RestsAs b accepted (Some q) = Rests q b accepted
 
 -- what is asked of the world around a publisher for a restart
-pub record MayRestart (c : List ℕ) (limits : Limits) (accepted : List ℕ) (w : World) : Type 0 where
+pub record MayRestart (c : List ℕ) (limits : Capacity) (accepted : List ℕ) (w : World) : Type 0 where
   pub his : List ℕ
   pub around : Around c limits his w
   pub him : RestsAs w.broker accepted (publisher_named c w)
@@ -48,7 +48,7 @@ rests_of his b accepted None h = h
 rests_of his b accepted (Some p) h = record { his = his; before = p; placed = h; same = refl }
 
 -- who is in step may go through a restart
-pub may_restart : (c : List ℕ) (limits : Limits) (his accepted : List ℕ) (w : World) → Holds c limits his accepted w → MayRestart c limits accepted w
+pub may_restart : (c : List ℕ) (limits : Capacity) (his accepted : List ℕ) (w : World) → Holds c limits his accepted w → MayRestart c limits accepted w
 may_restart c limits his accepted w h = record { his = his; around = h.around; him = rests_of his w.broker accepted (publisher_named c w) h.him }
 
 -- ---- the restart
@@ -145,7 +145,7 @@ restart_stays c set accepted w h unspent = by (publisher_named c w) h.him found
 -- ---- a stop before the first step
 
 -- a packet that was taken off a line is lost with the line
-taken_rests : (c d : List ℕ) (limits : Limits) (his accepted : List ℕ) (w : World) (f : Line Sent → Line Sent) (g : Line Back → Line Back) → Takes f → Takes g
+taken_rests : (c d : List ℕ) (limits : Capacity) (his accepted : List ℕ) (w : World) (f : Line Sent → Line Sent) (g : Line Back → Line Back) → Takes f → Takes g
     → ((p : Publisher) → publisher_restarted (on_line f p) ≡ publisher_restarted p) → Holds c limits his accepted w → MayRestart c limits accepted (with_line d f g w)
 taken_rests c d limits his accepted w f g f_takes g_takes lost h = record {
   his = his;

@@ -5,7 +5,7 @@ use Rattle.std.specs.Prelude.{find, is_some}
 use Rattle.std.specs.List.{AllByRecursion}
 use Rattle.mqtt_flow.specs.inbound.Publisher.{IsExactlyOnce, completed, refused, ended, ended_1}
 use Rattle.mqtt_records.specs.declared.state.records.Records.{Records}
-use Rattle.mqtt_rules.specs.declared.step.Limits.{Limits}
+use Rattle.mqtt_rules.specs.declared.step.Capacity.{Capacity}
 use Rattle.mqtt_rules.specs.step.State.{Broker, MemberChoice}
 use Rattle.mqtt_rules.specs.step.Laws.{AreWithin, FewOpen, HasFewOpen, HasTables}
 use Rattle.mqtt_world_model.specs.model.Ends.{Publisher, Receiver}
@@ -39,10 +39,10 @@ both_true false b h = absurd cc
 -- ---- an event that isn't bad
 
 -- none of the publisher's messages is accepted
-quietly : (c : List ℕ) (limits : Limits) (his accepted : List ℕ) (w : World) → Holds c limits his accepted w → Stays c limits (accepted ++ []) w
+quietly : (c : List ℕ) (limits : Capacity) (his accepted : List ℕ) (w : World) → Holds c limits his accepted w → Stays c limits (accepted ++ []) w
 quietly c limits his accepted w h = record { his = his; holds = subst (λ (ns : List ℕ). Holds c limits his ns w) (sym (append-nil accepted)) h }
 
-quiet : (c : List ℕ) (limits : Limits) (accepted : List ℕ) (w : World) → Stays c limits accepted w → Stays c limits (accepted ++ []) w
+quiet : (c : List ℕ) (limits : Capacity) (accepted : List ℕ) (w : World) → Stays c limits accepted w → Stays c limits (accepted ++ []) w
 quiet c limits accepted w s = quietly c limits s.his accepted w s.holds
 
 happens_stays : (e : Event) (c : List ℕ) (set : Setting) (accepted : List ℕ) (w : World) → Stays c set.limits accepted w → is_bad e w ≡ false → begins_clean e w ≡ true → read_in spending set e w ≡ false
@@ -76,7 +76,7 @@ none_each None = refl
 none_each (Some n) = refl
 
 -- every turn leaves the publisher in step
-pub turn_stays : (t : Turn) (c : List ℕ) (limits : Limits) (accepted : List ℕ) (w : World) → Stays c limits accepted w → begins_clean t.event w ≡ true → read_at spending (setting limits t) t.event w ≡ false
+pub turn_stays : (t : Turn) (c : List ℕ) (limits : Capacity) (accepted : List ℕ) (w : World) → Stays c limits accepted w → begins_clean t.event w ≡ true → read_at spending (setting limits t) t.event w ≡ false
     → Stays c limits (accepted ++ accepted_at c (setting limits t) t.event w) (turned limits t w)
 turn_stays t c limits accepted w s carried unspent = by (is_bad t.event w) refl unspent
   where
@@ -88,7 +88,7 @@ turn_stays t c limits accepted w s carried unspent = by (is_bad t.event w) refl 
     by true is u = subst (λ (ns : List ℕ). Stays c limits (accepted ++ ns) w) (sym (none_each (message_read c t.event w))) (quiet c limits accepted w s)
     by false is u = happens_stays t.event c set accepted w s is carried u
 
-run_stays : (ts : List Turn) (c : List ℕ) (limits : Limits) (accepted : List ℕ) (w : World) → Stays c limits accepted w → run_spends limits ts w ≡ false → are_beginnings_clean limits ts w ≡ true
+run_stays : (ts : List Turn) (c : List ℕ) (limits : Capacity) (accepted : List ℕ) (w : World) → Stays c limits accepted w → run_spends limits ts w ≡ false → are_beginnings_clean limits ts w ≡ true
     → Stays c limits (accepted ++ accepted_over c limits ts w) (run limits ts w)
 run_stays [] c limits accepted w s unspent carried = quiet c limits accepted w s
 run_stays (t ∷ ts) c limits accepted w s unspent carried =
@@ -102,7 +102,7 @@ run_stays (t ∷ ts) c limits accepted w s unspent carried =
 -- ---- from the beginning
 
 -- a new world has the publisher in step
-pub new_stays : (c : List ℕ) (limits : Limits) (w : World) → AreWithin limits → IsNew w → Stays c limits [] w
+pub new_stays : (c : List ℕ) (limits : Capacity) (w : World) → AreWithin limits → IsNew w → Stays c limits [] w
 new_stays c limits w within new = record {
   his = 0 ∷ [];
   holds = record {
@@ -131,7 +131,7 @@ new_stays c limits w within new = record {
     nobody there = let clash : true ≡ false = sym there ∙ ap is_some none in absurd cc
 
 -- so does every fair run from there
-pub fair_run_stays : (limits : Limits) (ts : List Turn) (w : World) → IsNew w → IsFair limits ts w → (c : List ℕ) → Stays c limits (accepted_over c limits ts w) (run limits ts w)
+pub fair_run_stays : (limits : Capacity) (ts : List Turn) (w : World) → IsNew w → IsFair limits ts w → (c : List ℕ) → Stays c limits (accepted_over c limits ts w) (run limits ts w)
 fair_run_stays limits ts w new fair c = run_stays ts c limits [] w (new_stays c limits w fair.within new) fair.unspent fair.clean
 
 -- ---- what it says of the publisher's messages
@@ -152,14 +152,14 @@ once_by n his b accepted (Some p) h =
     (at_most_once accepted p b h.run n, once_completed accepted p b h.run n, none_refused accepted p b h.run n, none_unsent accepted p b h.run n, some_acknowledged accepted p b h.run n)
 
 -- in every fair run a message is accepted at most once
-pub accepts_once : (limits : Limits) (ts : List Turn) (w : World) → IsNew w → IsFair limits ts w → (c : List ℕ) (n : ℕ) → IsAcceptedOnce c n limits ts w
+pub accepts_once : (limits : Capacity) (ts : List Turn) (w : World) → IsNew w → IsFair limits ts w → (c : List ℕ) (n : ℕ) → IsAcceptedOnce c n limits ts w
 accepts_once limits ts w new fair c n =
     let s = fair_run_stays limits ts w new fair c in
     let x = once_by n s.his (run limits ts w).broker (accepted_over c limits ts w) (publisher_named c (run limits ts w)) s.holds.him in
     record { once = x.0; complete = x.1; refusal = x.2; unsent = x.3; acknowledged = x.4 }
 
 -- and no session has too many open identifiers
-pub few_open : (limits : Limits) (ts : List Turn) (w : World) → IsNew w → IsFair limits ts w → FewOpen (run limits ts w).broker.records
+pub few_open : (limits : Capacity) (ts : List Turn) (w : World) → IsNew w → IsFair limits ts w → FewOpen (run limits ts w).broker.records
 few_open limits ts w new fair =
     let s = fair_run_stays limits ts w new fair [] in
     all_turned HasTables HasFewOpen (run limits ts w).broker.records.sessions (λ x h. h.inbound.within) s.holds.around.steady.coherent.ordered.each
@@ -171,5 +171,5 @@ pub start_new : IsNew start
 start_new = record { steady = steady_start; publishers = refl; receivers = refl; strangers = refl }
 
 -- so is one that opens over what was stored
-pub opened_new : (limits : Limits) (choice : MemberChoice) (now : ℕ) (r : Records) → AreWithin limits → MayOpen limits choice now r → IsNew (opened_world limits choice now r)
+pub opened_new : (limits : Capacity) (choice : MemberChoice) (now : ℕ) (r : Records) → AreWithin limits → MayOpen limits choice now r → IsNew (opened_world limits choice now r)
 opened_new limits choice now r within may = record { steady = steady_opened limits choice now r within may; publishers = refl; receivers = refl; strangers = refl }

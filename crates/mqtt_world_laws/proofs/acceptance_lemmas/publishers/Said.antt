@@ -12,7 +12,7 @@ use Rattle.mqtt_flow.specs.declared.inbound.inflow.Published.TheVariants.{New, A
 use Rattle.mqtt_base.specs.Codes.{topic_name_invalid, receive_maximum_exceeded}
 use Rattle.mqtt_records.specs.declared.state.session.Session.{Session}
 use Rattle.mqtt_rules.specs.step.State.{Line as BrokerLine, Broker, Env, MemberChoice, line_at, session_at}
-use Rattle.mqtt_rules.specs.declared.step.Limits.{Limits}
+use Rattle.mqtt_rules.specs.declared.step.Capacity.{Capacity}
 use Rattle.mqtt_rules.specs.step.Deeds.{whose, Message, FromClient, FromWill, Close, Hear, Deed, Accept, At, On, Send, Gone, Begin, Name, Count, Finish, Keep, Forget, RefuseWill, Link, after, after_all, always, series, with_line, with_session}
 use Rattle.mqtt_rules.specs.step.Routing.{CopyTo, accepted_copies, next_publication}
 use Rattle.mqtt_rules.specs.step.Closing.{close_session, close_connected, close, drop_line, settle}
@@ -157,7 +157,7 @@ module _ (env : Env) (l : BrokerLine) (s : Session) (d : Delivery) (c : Content)
 -- ---- a call with it: the session that is connected on its line is that client's
 
 -- what a PUBLISH is accepted with is what it said
-pub call_said : (limits : Limits) (choice : MemberChoice) (now n : ℕ) (d : Delivery) (c : Content) (client : List ℕ) (b : Broker)
+pub call_said : (limits : Capacity) (choice : MemberChoice) (now n : ℕ) (d : Delivery) (c : Content) (client : List ℕ) (b : Broker)
     → ((l : BrokerLine) (birth : ℕ) (s : Session) → line_at n b ≡ Some l → l.session ≡ Some birth → session_at birth b.records ≡ Some s → s.client ≡ client)
     → AreSaid (Carries client c) (deeds limits choice now (Input n (publish_with d c)) b)
 call_said limits choice now n d c client b mine = by_line (line_at n b) refl

@@ -50,7 +50,7 @@ all_changed P name f ss h a = all_mapped P P (changed name f) ss (λ s q. by (by
 -- ---- its bytes
 
 -- the line that it comes on is the next one
-pub linked_given : (set : Setting) (now : ℕ) (b : Broker) → can_link b ≡ true → (stepped set.limits set.choice now NewLine b).given ≡ suc b.given
+pub linked_given : (set : Setting) (now : ℕ) (b : Broker) → can_link set.limits b ≡ true → (stepped set.limits set.choice now NewLine b).given ≡ suc b.given
 linked_given set now b can =
     let ds = deeds set.limits set.choice now NewLine b in
     let begin = at_moment now b in
@@ -63,7 +63,7 @@ comes_held set name bytes w = by (stranger_named name w) refl
   where
     by : (o : Option Stranger) → stranger_named name w ≡ o → bytes_held (stranger_named name (linked_at set (is_some (stranger_named name w)) name bytes w)) ≡ bytes_held (stranger_named name w) ++ bytes
     by None e =
-        let x : Stranger = record { name = name; number = cond (can_link w.broker) (Some (suc w.broker.given)) None; held = bytes } in
+        let x : Stranger = record { name = name; number = cond (can_link set.limits w.broker) (Some (suc w.broker.given)) None; held = bytes } in
         ap (λ (o : Option Stranger). bytes_held (stranger_named name (linked_at set (is_some o) name bytes w))) e
         ∙ (ap bytes_held (find_last (λ (s : Stranger). bytes_eq s.name name) x w.strangers ((bytes_eq-Decides name name).1 refl) e) ∙ sym (ap (λ (o : Option Stranger). bytes_held o ++ bytes) e))
     by (Some s) e =

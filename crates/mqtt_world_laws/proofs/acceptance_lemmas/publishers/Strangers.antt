@@ -3,7 +3,7 @@ use Rattle.std.proofs.Common.{◌≡◌, ℕ, suc, Bool, true, false, cond, ◌|
 use Rattle.std.specs.Prelude.{is_some}
 use Rattle.std.specs.List.{AllByRecursion}
 use Rattle.mqtt_packet.specs.stream.Front.{first_of}
-use Rattle.mqtt_rules.specs.declared.step.Limits.{Limits}
+use Rattle.mqtt_rules.specs.declared.step.Capacity.{Capacity}
 use Rattle.mqtt_rules.specs.step.Step.{Call, NewLine, can_link, stepped}
 use Rattle.mqtt_world_model.specs.model.World.{Stranger, World, Setting, publisher_named, receiver_named, stranger_named, calls, calls_if, held_after, linked_at, comes, call_of_stranger, next_held, answers_rest, held_count, front_names, bytes_name, bytes_held, is_bad_asking, asks, first_step, stranger}
 use Rattle.mqtt_world_model.specs.model.Run.{read_if, read_rest, read_first, read_asked}
@@ -16,7 +16,7 @@ use Rattle.mqtt_world_laws.proofs.acceptance_lemmas.publishers.Around.{IsOutOf, 
 -- ---- its bytes change nothing of the broker and of the ends
 
 -- the invariant holds on whatever becomes of strangers on lines of others
-with_strangers : (c : List ℕ) (limits : Limits) (his accepted : List ℕ) (w : World) (ss : List Stranger) → Holds c limits his accepted w → AllByRecursion (OtherStranger his w.broker.given) ss
+with_strangers : (c : List ℕ) (limits : Capacity) (his accepted : List ℕ) (w : World) (ss : List Stranger) → Holds c limits his accepted w → AllByRecursion (OtherStranger his w.broker.given) ss
     → Holds c limits his accepted (record w { strangers = ss })
 with_strangers c limits his accepted w ss h a = record {
   around = record {
@@ -34,7 +34,7 @@ with_strangers c limits his accepted w ss h a = record {
 }
 
 -- and so it does as the next packet is cut off
-held_holds : (c : List ℕ) (limits : Limits) (his accepted : List ℕ) (name : List ℕ) (w : World) → Holds c limits his accepted w → Holds c limits his accepted (next_held name w)
+held_holds : (c : List ℕ) (limits : Capacity) (his accepted : List ℕ) (name : List ℕ) (w : World) → Holds c limits his accepted w → Holds c limits his accepted (next_held name w)
 held_holds c limits his accepted name w h =
     with_strangers c limits his accepted w (map (changed name (λ (s : Stranger). record s { held = held_after s.held })) w.strangers) h
     (all_changed (OtherStranger his w.broker.given) name (λ (s : Stranger). record s { held = held_after s.held }) w.strangers (λ s q. q) h.around.strangers)
@@ -46,7 +46,7 @@ pub linking_holds : (c : List ℕ) (set : Setting) (his accepted : List ℕ) (w 
 linking_holds c set his accepted w h = calls_hold c set his accepted NewLine w h (linking_spends_none set.limits set.choice w.now w.broker) (λ there. tt)
 
 -- the next line is no one's
-pub next_free : (c : List ℕ) (set : Setting) (his accepted : List ℕ) (w : World) → Holds c set.limits his accepted w → can_link w.broker ≡ true
+pub next_free : (c : List ℕ) (set : Setting) (his accepted : List ℕ) (w : World) → Holds c set.limits his accepted w → can_link set.limits w.broker ≡ true
     → IsFree his (stepped set.limits set.choice w.now NewLine w.broker).given (Some (suc w.broker.given))
 next_free c set his accepted w h can = λ j is.
     let it : suc w.broker.given ≡ j = cc in
@@ -57,7 +57,7 @@ next_free c set his accepted w h can = λ j is.
 pub comes_holds : (c : List ℕ) (set : Setting) (his accepted : List ℕ) (name bytes : List ℕ) (w : World) → Holds c set.limits his accepted w → Holds c set.limits his accepted (comes set name bytes w)
 comes_holds c set his accepted name bytes w h = by (is_some (stranger_named name w))
   where
-    free : (t : Bool) → can_link w.broker ≡ t → IsFree his (stepped set.limits set.choice w.now NewLine w.broker).given (cond t (Some (suc w.broker.given)) None)
+    free : (t : Bool) → can_link set.limits w.broker ≡ t → IsFree his (stepped set.limits set.choice w.now NewLine w.broker).given (cond t (Some (suc w.broker.given)) None)
     free false can = λ j is. absurd cc
     free true can = next_free c set his accepted w h can
 
@@ -67,9 +67,9 @@ comes_holds c set his accepted name bytes w h = by (is_some (stranger_named name
         (all_changed (OtherStranger his w.broker.given) name (λ (s : Stranger). record s { held = s.held ++ bytes }) w.strangers (λ s q. q) h.around.strangers)
     by false =
         let linked = linking_holds c set his accepted w h in
-        let x : Stranger = record { name = name; number = cond (can_link w.broker) (Some (suc w.broker.given)) None; held = bytes } in
+        let x : Stranger = record { name = name; number = cond (can_link set.limits w.broker) (Some (suc w.broker.given)) None; held = bytes } in
         with_strangers c set.limits his accepted (calls set NewLine w) (w.strangers ++ x ∷ []) linked
-        (all_appended (OtherStranger his (calls set NewLine w).broker.given) w.strangers x linked.around.strangers (free (can_link w.broker) refl))
+        (all_appended (OtherStranger his (calls set NewLine w).broker.given) w.strangers x linked.around.strangers (free (can_link set.limits w.broker) refl))
 
 -- whoever is there then was there before
 comes_there : (c : List ℕ) (set : Setting) (name bytes : List ℕ) (w : World) → is_some (publisher_named c (comes set name bytes w)) ≡ is_some (publisher_named c w)
@@ -82,7 +82,7 @@ comes_there c set name bytes w = by (is_some (stranger_named name w))
 -- ---- its packets
 
 -- the next of them is a step of others; w is the world in which the bytes came
-next_outside : (c : List ℕ) (limits : Limits) (his accepted : List ℕ) (name : List ℕ) (w v : World) → Holds c limits his accepted v → is_some (publisher_named c v) ≡ is_some (publisher_named c w)
+next_outside : (c : List ℕ) (limits : Capacity) (his accepted : List ℕ) (name : List ℕ) (w v : World) → Holds c limits his accepted v → is_some (publisher_named c v) ≡ is_some (publisher_named c w)
     → front_names (first_of (bytes_held (stranger_named name v))) w ≡ false → is_some (publisher_named c v) ≡ true → (x : Call) → call_of_stranger (stranger_named name v) ≡ Some x → IsOutside his c x
 next_outside c limits his accepted name w v h there good found =
     packet_outside c (IsOutOf his) (IsOutside his c) (λ n packet free other. (free, other)) (λ n t code free. free) v.broker.given name w v

@@ -6,14 +6,14 @@ use Rattle.mqtt_rules.proofs.step_lemmas.flight.FlightStep.{opening_keeps, step_
 use Rattle.mqtt_rules.specs.step.Flight.{HasDistinctIdentifiers}
 use Rattle.mqtt_rules.specs.step.Laws.{AreWithin}
 use Rattle.mqtt_rules.specs.step.State.{Broker}
-use Rattle.mqtt_rules.specs.declared.step.Limits.{Limits}
+use Rattle.mqtt_rules.specs.declared.step.Capacity.{Capacity}
 use Rattle.mqtt_world_laws.specs.acceptance.Fair.{IsFair, IsNew, IsSteady}
 use Rattle.mqtt_world_laws.specs.acceptance.Spending.{spending}
 use Rattle.mqtt_world_laws.proofs.acceptance_lemmas.copies.Walks.{Walk, run_walks, turn_goes, counted}
 use Rattle.mqtt_world_laws.specs.delivery.Alone.{Carries, IsKept}
 
 -- what each step keeps is carried along a run
-pub carrying : (P : Broker → Type 0) (limits : Limits) → IsKept limits P → Walk limits (Carries P)
+pub carrying : (P : Broker → Type 0) (limits : Capacity) → IsKept limits P → Walk limits (Carries P)
 carrying P limits k = record {
   none = λ b h. h;
   next = λ xs ys a b d p q h. q (p h);
@@ -33,7 +33,7 @@ event_keeps P e set w k within s good unspent h =
     subst (λ (bad : Bool). P (cond bad w (happens set e w)).broker) good (goes.said h)
 
 -- so does a run
-pub run_keeps : (P : Broker → Type 0) (limits : Limits) (ts : List Turn) (w : World) → IsKept limits P → IsNew w → IsFair limits ts w
+pub run_keeps : (P : Broker → Type 0) (limits : Capacity) (ts : List Turn) (w : World) → IsKept limits P → IsNew w → IsFair limits ts w
     → P w.broker → P (run limits ts w).broker
 run_keeps P limits ts w k new fair h = run_walks (Carries P) limits ts w (carrying P limits k) new (counted limits ts w fair) h
 
@@ -43,7 +43,7 @@ abbrev pub Distinct : Broker → Type 0
 Distinct b = HasDistinctIdentifiers b.records
 
 -- identifiers in flight stay apart
-pub distinct_kept : (limits : Limits) → IsKept limits Distinct
+pub distinct_kept : (limits : Capacity) → IsKept limits Distinct
 distinct_kept limits = record {
   called = λ choice now call b s unspent h. step_keeps limits choice now call b h;
   reopened = λ choice now b s unspent h. opening_keeps limits choice now b.records h;

@@ -28,7 +28,7 @@ use Rattle.mqtt_rules.specs.step.Routing.{CopyTo, accepted_copies, is_queued, ne
 use Rattle.mqtt_rules.specs.step.State.{Broker, Env, session_at}
 use Rattle.mqtt_rules.specs.step.Step.{at_moment, deeds, env_of, opening, unopened}
 use Rattle.mqtt_rules.specs.step.Subscribe as sub
-use Rattle.mqtt_rules.specs.declared.step.Limits.{Limits}
+use Rattle.mqtt_rules.specs.declared.step.Capacity.{Capacity}
 use Rattle.mqtt_world_laws.specs.acceptance.Entries.{queued_ids}
 use Rattle.mqtt_world_laws.proofs.acceptance_lemmas.copies.EachAct.{Says, call_says, opening_says, says_still, whatever}
 use Rattle.mqtt_world_laws.proofs.acceptance_lemmas.copies.Entering.{AllStand, AreStill, accepted_stand, entered_none, grant_enters, publish_enters}
@@ -195,7 +195,7 @@ counted_enters : (ds : List Deed) (a b d : Broker) → AllByRecursion (λ (k : �
 counted_enters ds a b d given grow first said = record { grow = grow; each = said d.records.births (begin_upto d.records.births ds given) first }
 
 -- copies enter queues of sessions that were given
-pub entering : (limits : Limits) → Walk limits Enters
+pub entering : (limits : Capacity) → Walk limits Enters
 entering limits = record {
   none = λ b. record { grow = omega arith; each = tt };
   next = λ xs ys a b d p q.

@@ -28,7 +28,7 @@ use Rattle.mqtt_rules.specs.step.State.{Line as BrokerLine, Broker, Env, MemberC
 use Rattle.mqtt_rules.specs.step.Step.{BadInput, Call, Input, Lost, NewLine, Pump, Tick, at_moment, deeds, deeds_of, env_of, stepped}
 use Rattle.mqtt_rules.specs.step.Subscribe as sub
 use Rattle.mqtt_rules.specs.step.Tick.{lapse_deeds}
-use Rattle.mqtt_rules.specs.declared.step.Limits.{Limits}
+use Rattle.mqtt_rules.specs.declared.step.Capacity.{Capacity}
 use Rattle.mqtt_world_model.proofs.model_lemmas.seats.Seeing.{done_lines}
 use Rattle.mqtt_world_laws.specs.receiver.Connecting.{any_size}
 use Rattle.mqtt_world_laws.specs.delivery.Taking.{TakesThere}
@@ -205,7 +205,7 @@ module _ (window n : ℕ) where
   all_take (d ∷ ds) b q h = all_take ds (after d b) q.1 (deed_takes d b.now b.lines b q.0 h)
 
   -- a call leaves what a connected line takes, but for a CONNECT there
-  pub called_take : (limits : Limits) (choice : MemberChoice) (now : ℕ) (call : Call) (b : Broker) → Suits call → Take b.lines → Take (stepped limits choice now call b).lines
+  pub called_take : (limits : Capacity) (choice : MemberChoice) (now : ℕ) (call : Call) (b : Broker) → Suits call → Take b.lines → Take (stepped limits choice now call b).lines
   called_take limits choice now call b q h =
       let first = at_moment now b in
       let ds = deeds limits choice now call b in

@@ -8,7 +8,7 @@ use Rattle.mqtt_rules.proofs.step_lemmas.numbers.Copies.{each_more, kinds}
 use Rattle.mqtt_rules.specs.step.Deeds.{Deed}
 use Rattle.mqtt_rules.specs.step.Laws.{AreWithin, IsCoherentMessage}
 use Rattle.mqtt_rules.specs.step.State.{Broker}
-use Rattle.mqtt_rules.specs.declared.step.Limits.{Limits}
+use Rattle.mqtt_rules.specs.declared.step.Capacity.{Capacity}
 use Rattle.mqtt_world_laws.specs.acceptance.Fair.{IsSteady}
 use Rattle.mqtt_world_laws.specs.acceptance.Spending.{spending}
 use Rattle.mqtt_world_laws.proofs.acceptance_lemmas.copies.Entries.{AreKept, call_counted, opening_counted}
@@ -21,7 +21,7 @@ Keeps ds b d = AreKept (kinds b.records) → AreKept (kinds d.records)
 any_copy : CopyId
 any_copy = record { publication = 0; birth = 0; cause = Direct }
 
-keeps : (limits : Limits) → Walk limits Keeps
+keeps : (limits : Capacity) → Walk limits Keeps
 keeps limits = record {
   none = λ b k. k;
   next = λ xs ys a b d p q k. q (p k);
@@ -32,7 +32,7 @@ keeps limits = record {
 }
 
 -- a turn keeps retained messages apart
-pub turn_retains : (limits : Limits) (t : Turn) (w : World) → AreWithin limits → IsSteady w.broker → read_at spending (setting limits t) t.event w ≡ false → AreRetainedOnce w.broker.records
+pub turn_retains : (limits : Capacity) (t : Turn) (w : World) → AreWithin limits → IsSteady w.broker → read_at spending (setting limits t) t.event w ≡ false → AreRetainedOnce w.broker.records
     → AreRetainedOnce (turned limits t w).broker.records
 turn_retains limits t w within steady unspent once =
     let r = w.broker.records in

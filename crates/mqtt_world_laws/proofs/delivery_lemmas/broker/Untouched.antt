@@ -11,7 +11,7 @@ use Rattle.mqtt_rules.specs.step.Flight.{HasDistinctIdentifiers}
 use Rattle.mqtt_rules.specs.step.Laws.{AreWithin, IsCoherentMessage}
 use Rattle.mqtt_rules.specs.step.State.{MemberChoice}
 use Rattle.mqtt_rules.specs.step.Step.{unopened}
-use Rattle.mqtt_rules.specs.declared.step.Limits.{Limits}
+use Rattle.mqtt_rules.specs.declared.step.Capacity.{Capacity}
 use Rattle.mqtt_world_laws.specs.acceptance.Fair.{MayOpen, opened_world}
 use Rattle.mqtt_world_laws.proofs.acceptance_lemmas.copies.Entries.{opening_counted}
 use Rattle.mqtt_world_laws.proofs.acceptance_lemmas.publishers.Runs.{opened_new, start_new}
@@ -24,7 +24,7 @@ use Rattle.mqtt_world_laws.specs.delivery.Retaining.{AreRetainedOnce}
 use Rattle.mqtt_world_laws.proofs.delivery_lemmas.broker.Unused.{opening_unused}
 
 -- at first the world is untouched
-pub start_untouched : (limits : Limits) → AreWithin limits → IsUntouched limits start
+pub start_untouched : (limits : Capacity) → AreWithin limits → IsUntouched limits start
 start_untouched limits within =
     record {
       new = start_new;
@@ -36,7 +36,7 @@ start_untouched limits within =
     }
 
 -- so is one that opens over what was stored
-pub opened_untouched : (limits : Limits) (choice : MemberChoice) (now : ℕ) (r : Records) → AreWithin limits → MayOpen limits choice now r → HasDistinctIdentifiers r → AreRetainedOnce r → HasLawfulContents r → HaveSentPhases r
+pub opened_untouched : (limits : Capacity) (choice : MemberChoice) (now : ℕ) (r : Records) → AreWithin limits → MayOpen limits choice now r → HasDistinctIdentifiers r → AreRetainedOnce r → HasLawfulContents r → HaveSentPhases r
     → IsUntouched limits (opened_world limits choice now r)
 opened_untouched limits choice now r within may distinct once contents phases = record {
   new = opened_new limits choice now r within may;

@@ -45,7 +45,7 @@ use Rattle.mqtt_rules.specs.step.Step.{Call, NewLine, Input, BadInput, Lost, Pum
 use Rattle.mqtt_rules.specs.step.Step as step
 use Rattle.mqtt_rules.specs.step.Subscribe as sub
 use Rattle.mqtt_rules.specs.step.Tick.{is_silent, lapse_deeds, lapses}
-use Rattle.mqtt_rules.specs.declared.step.Limits.{Limits}
+use Rattle.mqtt_rules.specs.declared.step.Capacity.{Capacity}
 use Rattle.mqtt_topic.specs.names.Names.{is_empty}
 use Rattle.mqtt_world_laws.proofs.receiver_lemmas.own.Answering.{IsReply, IsReplyTurn, reply_puback, reply_pubcomp, reply_pubrec}
 use Rattle.mqtt_world_laws.specs.delivery.Alone.{HaveSentNothing, IsKept, IsUnused}
@@ -422,7 +422,7 @@ joined_given b n u one = by (row_at line_number n b.lines) refl
         omega (arith, low, same)
 
 -- a step sends nothing on lines without a session
-pub step_unused : (limits : Limits) (choice : MemberChoice) (now : ℕ) (call : Call) (b : Broker) → HasUniqueLines b → HaveSentNothing b → HaveSentNothing (stepped limits choice now call b)
+pub step_unused : (limits : Capacity) (choice : MemberChoice) (now : ℕ) (call : Call) (b : Broker) → HasUniqueLines b → HaveSentNothing b → HaveSentNothing (stepped limits choice now call b)
 step_unused limits choice now call b u h =
     let first = at_moment now b in
     let ds = step.deeds limits choice now call b in
@@ -435,7 +435,7 @@ step_unused limits choice now call b u h =
 -- ---- an opening: no line stands
 
 -- nor does an opening
-pub opening_unused : (limits : Limits) (choice : MemberChoice) (now : ℕ) (r : Records) → HaveSentNothing (opened limits choice now r)
+pub opening_unused : (limits : Capacity) (choice : MemberChoice) (now : ℕ) (r : Records) → HaveSentNothing (opened limits choice now r)
 opening_unused limits choice now r =
     let b = unopened now r in
     let env = env_of limits choice b in
@@ -446,7 +446,7 @@ opening_unused limits choice now r =
     subst (AllByRecursion IsUnused) (sym (done_lines (rows_of_all ds b.records) (after_all ds b))) (unused_of nobody (after_all ds b) led_on.1)
 
 -- and that is kept
-pub unused_kept : (limits : Limits) → IsKept limits HaveSentNothing
+pub unused_kept : (limits : Capacity) → IsKept limits HaveSentNothing
 unused_kept limits = record {
   called = λ choice now call b s unspent h. step_unused limits choice now call b s.lines h;
   reopened = λ choice now b s unspent h. opening_unused limits choice now b.records;

@@ -22,7 +22,7 @@ use Rattle.mqtt_rules.specs.step.Laws.{IsAmong}
 use Rattle.mqtt_rules.specs.step.Numbers.{CountsOn, HasAcceptedNumbers, publication_given}
 use Rattle.mqtt_rules.specs.step.State.{Broker, session_named}
 use Rattle.mqtt_rules.specs.step.Step.{Call, deeds, stepped, told}
-use Rattle.mqtt_rules.specs.declared.step.Limits.{Limits}
+use Rattle.mqtt_rules.specs.declared.step.Capacity.{Capacity}
 use Rattle.mqtt_world_laws.specs.acceptance.Copies.{AreCountedOn}
 use Rattle.mqtt_world_laws.specs.acceptance.Fair.{IsFair}
 use Rattle.mqtt_world_laws.specs.acceptance.Spending.{run_spends, spending}
@@ -165,7 +165,7 @@ module _ (c : List ℕ) (base : ℕ) where
   pumped_holds set None w xs s said h = h
   pumped_holds set (Some call) w xs s said h = called_holds set call w xs s said h
 
-  turn_holds : (limits : Limits) (t : Turn) (v : World) (xs : List Numbered) → Stands [] c any_size limits (turned limits t v) → AllSaid base xs (turned limits t v).broker.records → EachHolds (Said xs) (receiver_named c v)
+  turn_holds : (limits : Capacity) (t : Turn) (v : World) (xs : List Numbered) → Stands [] c any_size limits (turned limits t v) → AllSaid base xs (turned limits t v).broker.records → EachHolds (Said xs) (receiver_named c v)
       → EachHolds (Said xs) (receiver_named c (turned limits t v))
   turn_holds limits t v xs s said h = by (is_bad t.event v) s said
     where
@@ -185,7 +185,7 @@ module _ (c : List ℕ) (base : ℕ) where
       by true s said = h
       by false s said = on t.event s said
 
-  run_holds : (limits : Limits) (ts : List Turn) (v : World) (xs : List Numbered) → IsKept [] c limits v → run_spends limits ts v ≡ false → are_beginnings_clean limits ts v ≡ true → AllSaid base xs v.broker.records → EachHolds (Said xs) (receiver_named c v)
+  run_holds : (limits : Capacity) (ts : List Turn) (v : World) (xs : List Numbered) → IsKept [] c limits v → run_spends limits ts v ≡ false → are_beginnings_clean limits ts v ≡ true → AllSaid base xs v.broker.records → EachHolds (Said xs) (receiver_named c v)
       → EachHolds (Said (xs ++ accepted (deeds_over limits ts v))) (receiver_named c (run limits ts v))
   run_holds limits [] v xs k unspent carried said h = subst (λ (all : List Numbered). EachHolds (Said all) (receiver_named c v)) (sym (append-nil xs)) h
   run_holds limits (t ∷ ts) v xs k unspent carried said h =
@@ -248,7 +248,7 @@ module _ (set : Setting) where
       by true = tt
       by false = by_event x w
 
-by_run : (limits : Limits) (ts : List Turn) (w : World) → AreBy (acceptances_over limits ts w) (deeds_over limits ts w)
+by_run : (limits : Capacity) (ts : List Turn) (w : World) → AreBy (acceptances_over limits ts w) (deeds_over limits ts w)
 by_run limits [] w = tt
 by_run limits (t ∷ ts) w =
     let u = turned limits t w in
@@ -269,7 +269,7 @@ module _ (base last : ℕ) (ds : List Deed) (counted : CountsOn base (filter_map
   all_carry es h = All-from_recursion (CarriesOn a) es (each_more (EntrySaid base (accepted ds)) (CarriesOn a) entry_carries es h)
 
 -- in every fair run a receiver reads what was published
-pub run_reads : (limits : Limits) (ts : List Turn) (w : World) → IsUntouched limits w → HasAcceptedNumbers w.broker.records → AreCountedOn limits ts w → IsFair limits ts w → (c : List ℕ) (r : Receiver) → receiver_named c (run limits ts w) ≡ Some r
+pub run_reads : (limits : Capacity) (ts : List Turn) (w : World) → IsUntouched limits w → HasAcceptedNumbers w.broker.records → AreCountedOn limits ts w → IsFair limits ts w → (c : List ℕ) (r : Receiver) → receiver_named c (run limits ts w) ≡ Some r
     → All (CarriesEach r) (acceptances_over limits ts w)
 run_reads limits ts w u numbers counted fair c r e =
     let base = w.broker.records.publications in

@@ -44,7 +44,7 @@ use Rattle.mqtt_rules.specs.step.Routing.{CopyTo, accepted_copies, accepted_if, 
 use Rattle.mqtt_rules.specs.step.State.{Broker, Env, Line, line_of, queue_on, session_at}
 use Rattle.mqtt_rules.specs.step.Step.{at_moment, deeds, env_of, opening, unopened, with_moment}
 use Rattle.mqtt_rules.specs.step.Subscribe as sub
-use Rattle.mqtt_rules.specs.declared.step.Limits.{Limits}
+use Rattle.mqtt_rules.specs.declared.step.Capacity.{Capacity}
 use Rattle.mqtt_world_laws.proofs.acceptance_lemmas.copies.EachAct.{Says, call_says, opening_says, whatever}
 use Rattle.mqtt_world_laws.proofs.acceptance_lemmas.copies.Entering.{AreCalm, IsCalm, calm_forgets, calm_leaves}
 use Rattle.mqtt_world_laws.proofs.acceptance_lemmas.copies.Walks.{Walk}
@@ -346,7 +346,7 @@ module _ (base : ℕ) where
   Keeps ds b d = (before : List Numbered) → AllSaid base before b.records → AllSaid base (before ++ accepted ds) d.records
 
   -- that contents are what was published is a law of every run
-  pub keeping : (limits : Limits) → Walk limits Keeps
+  pub keeping : (limits : Capacity) → Walk limits Keeps
   keeping limits = record {
     none = λ b before h. subst (λ (all : List Numbered). AllSaid base all b.records) (sym (append-nil before)) h;
     next = λ xs ys a b d p q before h.

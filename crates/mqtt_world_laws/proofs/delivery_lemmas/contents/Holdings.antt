@@ -319,7 +319,7 @@ module _ (P : Entry → Type 0) where
     pub happens_hold : (set : Setting) (x : Event) (w : World) → IsNoTurn x → In w → In (happens set x w)
     happens_hold set (publisher d) w none h = h
     happens_hold set (receiver d window aliases) w none h = receiver_holds d window aliases set w h
-    happens_hold set (connect_end d clean) w none h = links_hold set (next_line w.broker) d clean w h
+    happens_hold set (connect_end d clean) w none h = links_hold set (next_line set.limits w.broker) d clean w h
     happens_hold set (give_up d) w none h = one_on d (on_back (λ l. gives_up l.link l)) w (happens set (give_up d) w) (λ r. refl) gives_on refl h
     happens_hold set (publish d x) w none h = h
     happens_hold set (subscribe d x) w none h = one_on d (λ r. asks_wish (stands r.line.number w.broker) x r) w (happens set (subscribe d x) w) (λ r. refl) (λ r q. same_way (asks_wish (stands r.line.number w.broker) x) r refl refl refl q) refl h

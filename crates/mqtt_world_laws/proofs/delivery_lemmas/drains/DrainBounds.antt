@@ -3,7 +3,7 @@ use Rattle.std.proofs.Common.{◌≡◌, ℕ, ◌+◌, ◌≤◌, true, false, L
 use Rattle.mqtt_world_model.specs.model.Run.{Turn, run}
 use Rattle.mqtt_world_model.specs.model.World.{World}
 use Rattle.mqtt_rules.specs.step.State.{MemberChoice}
-use Rattle.mqtt_rules.specs.declared.step.Limits.{Limits}
+use Rattle.mqtt_rules.specs.declared.step.Capacity.{Capacity}
 use Rattle.mqtt_world_laws.specs.acceptance.Copies.{entered_from}
 use Rattle.mqtt_world_laws.specs.acceptance.Fair.{IsFair}
 use Rattle.mqtt_world_laws.specs.acceptance.Spending.{run_spends}
@@ -13,7 +13,7 @@ use Rattle.mqtt_world_laws.proofs.delivery_lemmas.whole.EveryRun.{drain_over, dr
 use Rattle.mqtt_world_laws.proofs.delivery_lemmas.order.QueueGrowth.{queue_grows}
 use Rattle.mqtt_world_laws.proofs.delivery_lemmas.others.Runs.{run_kept}
 
-module _ (limits : Limits) (ts : List Turn) (choice : MemberChoice) (c : List ℕ) (w : World) (u : IsUntouched limits w) (fair : IsFair limits ts w)
+module _ (limits : Capacity) (ts : List Turn) (choice : MemberChoice) (c : List ℕ) (w : World) (u : IsUntouched limits w) (fair : IsFair limits ts w)
     (unspent : run_spends limits (round_turns limits choice c (run limits ts w)) (run limits ts w) ≡ false) where
   abbrev v : World
   v = run limits ts w

@@ -25,7 +25,7 @@ use Rattle.mqtt_rules.proofs.step_lemmas.flight.FlightRows.{all_more}
 use Rattle.mqtt_rules.specs.step.Deeds.{Deed, with_line}
 use Rattle.mqtt_rules.specs.step.State.{Line as BrokerLine, Broker, MemberChoice, capped, session_named}
 use Rattle.mqtt_rules.specs.step.Step.{Call, Input, Pump, at_moment, deeds, deeds_of, done, env_of, is_spent, is_step_spent, on_pump, outcome_of, rows_written}
-use Rattle.mqtt_rules.specs.declared.step.Limits.{Limits}
+use Rattle.mqtt_rules.specs.declared.step.Capacity.{Capacity}
 use Rattle.mqtt_world_laws.proofs.acceptance_lemmas.publishers.Ends.{named_receiver}
 use Rattle.mqtt_world_laws.proofs.acceptance_lemmas.publishers.Runs.{both_true, either}
 use Rattle.mqtt_world_laws.specs.acceptance.Fair.{IsFair}
@@ -93,7 +93,7 @@ untold call b r =
     none_known None table = refl
     none_known (Some n) table = refl
 
-module _ (c : List ℕ) (limits : Limits) (choice : MemberChoice) (clean : Bool) (v : World) (r : Receiver) (l : BrokerLine) (e : receiver_named c v ≡ Some r) (alone : publisher_named c v ≡ None) (here : Awaits r.line.number l v.broker)
+module _ (c : List ℕ) (limits : Capacity) (choice : MemberChoice) (clean : Bool) (v : World) (r : Receiver) (l : BrokerLine) (e : receiver_named c v ≡ Some r) (alone : publisher_named c v ≡ None) (here : Awaits r.line.number l v.broker)
     (up : r.line.up ≡ answers (connect clean) ∷ []) (down : r.line.down ≡ []) where
   abbrev set : Setting
   set = record { limits = limits; choice = choice }
@@ -153,7 +153,7 @@ module _ (c : List ℕ) (limits : Limits) (choice : MemberChoice) (clean : Bool)
 
 -- ---- from where a run comes to
 
-module _ (c : List ℕ) (limits : Limits) (choice : MemberChoice) (v : World) (kept : IsKept [] c limits v) (r : Receiver) (e : receiver_named c v ≡ Some r) (most : ℕ) where
+module _ (c : List ℕ) (limits : Capacity) (choice : MemberChoice) (v : World) (kept : IsKept [] c limits v) (r : Receiver) (e : receiver_named c v ≡ Some r) (most : ℕ) where
   abbrev s : Stands [] c any_size limits v
   s = kept.stands
 
@@ -312,7 +312,7 @@ module _ (c : List ℕ) (limits : Limits) (choice : MemberChoice) (v : World) (k
 -- ---- if answers alone may be under way from it
 
 -- a copy of a drained session ends as the definition says
-pub ends_later : (c : List ℕ) (limits : Limits) (choice : MemberChoice) (most : ℕ) (u : World) → MayBeDrained c any_size u → EndSo c (EndsAs answering (moment_of u)) u (drained limits choice c most u)
+pub ends_later : (c : List ℕ) (limits : Capacity) (choice : MemberChoice) (most : ℕ) (u : World) → MayBeDrained c any_size u → EndSo c (EndsAs answering (moment_of u)) u (drained limits choice c most u)
 ends_later c limits choice most u m =
     let x = m.may.connected.in_step.runs (place_of m.ids) (places_number m.ids m.differ) in
     let d = drain_is (place_of m.ids) any_size m.window m.ids m.birth m.ns limits choice c x.after m.receiver u m.may x.same x.run_is most m.room in
@@ -325,7 +325,7 @@ ends_later c limits choice most u m =
 
 -- ---- in a run
 
-module _ (limits : Limits) (ts : List Turn) (choice : MemberChoice) (c : List ℕ) (most : ℕ) (w : World) (u : IsUntouched limits w) (fair : IsFair limits ts w)
+module _ (limits : Capacity) (ts : List Turn) (choice : MemberChoice) (c : List ℕ) (most : ℕ) (w : World) (u : IsUntouched limits w) (fair : IsFair limits ts w)
     (unspent : run_spends limits (round_turns limits choice c (run limits ts w)) (run limits ts w) ≡ false) where
   -- the copies that stand when a drain begins end in it by what is under way from the receiver
   pub run_ends : (r : Receiver) → receiver_named c (run limits ts w) ≡ Some r → IsCalm r → is_over c (run limits ts w) ≡ false

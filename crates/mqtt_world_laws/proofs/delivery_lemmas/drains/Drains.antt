@@ -15,7 +15,7 @@ use Rattle.mqtt_records.specs.lists.Distinct.{AllDiffer}
 use Rattle.mqtt_rules.specs.step.Flight.{HasDistinctIdentifiers}
 use Rattle.mqtt_rules.specs.step.State.{Line as BrokerLine, Broker, MemberChoice, line_at}
 use Rattle.mqtt_rules.specs.step.Step.{Call, stepped, told}
-use Rattle.mqtt_rules.specs.declared.step.Limits.{Limits}
+use Rattle.mqtt_rules.specs.declared.step.Capacity.{Capacity}
 use Rattle.mqtt_world_laws.proofs.acceptance_lemmas.publishers.Ends.{find_receiver, only_receiver}
 use Rattle.mqtt_world_laws.proofs.acceptance_lemmas.publishers.Runs.{both_true}
 use Rattle.mqtt_world_laws.specs.receiver.Drains.{after_round, all_to_broker, all_to_end, copies_left, count_by_end, downs_by, drain_by, drain_turns, drained, enough_rounds, is_none_left, is_over, line_stands, round_turns, rounds_taken, times, turn_of, ups_by}
@@ -45,7 +45,7 @@ none_up (x ∷ xs) h = let le : suc (length xs) ≤ 0 = h in absurd (omega (arit
 
 -- ---- the broker reads all
 
-module _ (c : List ℕ) (limits : Limits) (choice : MemberChoice) where
+module _ (c : List ℕ) (limits : Capacity) (choice : MemberChoice) where
   abbrev set : Setting
   set = record { limits = limits; choice = choice }
 
@@ -173,7 +173,7 @@ pub record Connection (largest : ℕ) (ids : List CopyId) (birth : ℕ) (ns : Li
   pub connected : IsConnected largest window ids birth ns r b
 
 -- a receiver in step has a connection to be drained on
-pub connection_of : (c : List ℕ) (largest : ℕ) (limits : Limits) (ids : List CopyId) (ns : List ℕ) (r : Receiver) (v : World) → StandsWith c largest limits ids ns v → receiver_named c v ≡ Some r → HasDistinctIdentifiers v.broker.records
+pub connection_of : (c : List ℕ) (largest : ℕ) (limits : Capacity) (ids : List CopyId) (ns : List ℕ) (r : Receiver) (v : World) → StandsWith c largest limits ids ns v → receiver_named c v ≡ Some r → HasDistinctIdentifiers v.broker.records
     → TakesSome c largest v → (placed : IsPlaced largest ids ns r v.broker) (birth : ℕ) → placed.birth ≡ Some birth → r.line.number ≡ Some placed.line → connected_at placed.line v.broker.lines ≡ Some (Some birth)
     → Connection largest ids birth ns r v.broker
 connection_of c largest limits ids ns r v s e distinct takes placed birth own at there =
@@ -202,7 +202,7 @@ connection_of c largest limits ids ns r v s e distinct takes placed birth own at
     }
 
 -- a drain is over, or goes on
-pub over_or_drains : (first : List CopyId) (c : List ℕ) (largest : ℕ) (limits : Limits) (v : World) → Stands first c largest limits v → HasDistinctIdentifiers v.broker.records → TakesSome c largest v → HasUp c 0 v
+pub over_or_drains : (first : List CopyId) (c : List ℕ) (largest : ℕ) (limits : Capacity) (v : World) → Stands first c largest limits v → HasDistinctIdentifiers v.broker.records → TakesSome c largest v → HasUp c 0 v
     → (is_over c v ≡ true) ⊎ MayBeDrained c largest v
 over_or_drains first c largest limits v s distinct takes none = by (receiver_named c v) refl
   where
@@ -246,7 +246,7 @@ over_or_drains first c largest limits v s distinct takes none = by (receiver_nam
 
 -- ---- so a drain ends
 
-module _ (c : List ℕ) (limits : Limits) (choice : MemberChoice) where
+module _ (c : List ℕ) (limits : Capacity) (choice : MemberChoice) where
   none_more : (most : ℕ) (v : World) → is_over c v ≡ true → (rounds_taken limits choice c most v ≡ 0) × (drain_turns limits choice c most v ≡ [])
   none_more zero v over = (refl, refl)
   none_more (suc more) v over = (

@@ -21,7 +21,7 @@ use Rattle.mqtt_rules.specs.step.Deeds.{Deed}
 use Rattle.mqtt_rules.specs.step.Laws.{IsCoherent, IsCoherentMessage}
 use Rattle.mqtt_records.specs.declared.state.records.Records.{Records}
 use Rattle.mqtt_rules.specs.step.State.{Broker, session_named}
-use Rattle.mqtt_rules.specs.declared.step.Limits.{Limits}
+use Rattle.mqtt_rules.specs.declared.step.Capacity.{Capacity}
 use Rattle.mqtt_world_laws.specs.acceptance.Copies.{entered_from}
 use Rattle.mqtt_world_laws.specs.acceptance.Fair.{IsFair}
 use Rattle.mqtt_world_laws.specs.acceptance.Identities.{is_ahead}
@@ -57,7 +57,7 @@ module _ (x : CopyId) where
   Counts ds b d = AreKept (kinds b.records) → Counted x ds (kinds b.records) (kinds d.records)
 
   -- that no copy enters twice is counted off over every run
-  pub counts : (limits : Limits) → Walk limits Counts
+  pub counts : (limits : Capacity) → Walk limits Counts
   counts limits = record {
     none = λ b k. let zero : E x [] ≡ 0 = refl in record { counted = omega (arith, zero); kept = k };
     next = λ xs ys a b d p q k. let first = p k in enters_next x xs ys (kinds a.records) (kinds b.records) (kinds d.records) first (q first.kept);
@@ -100,7 +100,7 @@ lots_stand [] = refl
 lots_stand (standing e m ∷ lots) = stand_both (e.copy.id ∷ []) (standing_ids lots) (e.copy.id ∷ []) (map id_of lots) (stand_self (e.copy.id ∷ [])) (lots_stand lots)
 lots_stand (past ending e m ∷ lots) = behind_one (standing_ids lots) e.copy.id (map id_of lots) (lots_stand lots)
 
-module _ (c : List ℕ) (limits : Limits) where
+module _ (c : List ℕ) (limits : Capacity) where
   queue_stands : (u : World) (s : Stands [] c any_size limits u) (q : Receiver) → receiver_named c u ≡ Some q → stand_among (queue_at c u) s.ids ≡ true
   queue_stands u s q e =
       let x = runs_so c any_size limits s.ids s.ns q u s.standing e in
@@ -204,7 +204,7 @@ module _ (c : List ℕ) (limits : Limits) where
 
 -- ---- in a run
 
-module _ (limits : Limits) (xs ys : List Turn) (w : World) (untouched : IsUntouched limits w) (fair : IsFair limits (xs ++ ys) w) (c : List ℕ) (q : Receiver) (e : receiver_named c (run limits xs w) ≡ Some q) where
+module _ (limits : Capacity) (xs ys : List Turn) (w : World) (untouched : IsUntouched limits w) (fair : IsFair limits (xs ++ ys) w) (c : List ℕ) (q : Receiver) (e : receiver_named c (run limits xs w) ≡ Some q) where
   abbrev v : World
   v = run limits xs w
 

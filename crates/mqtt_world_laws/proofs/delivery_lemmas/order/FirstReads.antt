@@ -5,7 +5,7 @@ use Rattle.std.proofs.lemmas.Bool.{cases_Bool}
 use Rattle.mqtt_base.specs.declared.session.CopyId.{CopyId}
 use Rattle.mqtt_flow.specs.outbound.OutboundWorld.{Lot, World as Hop}
 use Rattle.mqtt_flow.specs.outbound.Receiver.{Rising}
-use Rattle.mqtt_rules.specs.declared.step.Limits.{Limits}
+use Rattle.mqtt_rules.specs.declared.step.Capacity.{Capacity}
 use Rattle.mqtt_rules.specs.step.State.{Broker}
 use Rattle.mqtt_world_model.specs.model.Ends.{Entry, Receiver}
 use Rattle.mqtt_world_model.specs.model.Laws.{copies_in, stand_among}
@@ -65,7 +65,7 @@ module _ (number : Numbering) (largest : ℕ) (copies : List Lot) (r : Receiver)
       rises_in_order number largest copies r b h (first_reads r.once) (first_ones (WasTagged number (map id_of copies)) r.once h.tagged.once) (subst Rising (sym (first_mapped number (map id_of copies) r.once h.tagged.once)) law)
 
 -- copies of QoS 1 were read first in the order in which they entered
-pub read_in_order : (c : List ℕ) (largest : ℕ) (limits : Limits) (ids : List CopyId) (ns : List ℕ) (r : Receiver) (w : World) → StandsWith c largest limits ids ns w → receiver_named c w ≡ Some r → stand_among (copies_in (first_reads r.once)) ids ≡ true
+pub read_in_order : (c : List ℕ) (largest : ℕ) (limits : Capacity) (ids : List CopyId) (ns : List ℕ) (r : Receiver) (w : World) → StandsWith c largest limits ids ns w → receiver_named c w ≡ Some r → stand_among (copies_in (first_reads r.once)) ids ≡ true
 read_in_order c largest limits ids ns r w h e =
     let x = runs_so c largest limits ids ns r w h e in
     subst (λ (all : List CopyId). stand_among (copies_in (first_reads r.once)) all ≡ true) x.same (first_in_order _ largest x.after r w.broker x.run_is)

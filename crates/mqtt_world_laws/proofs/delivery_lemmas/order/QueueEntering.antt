@@ -36,7 +36,7 @@ use Rattle.mqtt_rules.specs.step.Laws.{IsCoherent}
 use Rattle.mqtt_rules.specs.step.Numbers.{HasGivenBirths}
 use Rattle.mqtt_rules.specs.step.State.{Broker, session_at, session_named}
 use Rattle.mqtt_rules.specs.step.Step.{at_moment, deeds, env_of, opening, unopened}
-use Rattle.mqtt_rules.specs.declared.step.Limits.{Limits}
+use Rattle.mqtt_rules.specs.declared.step.Capacity.{Capacity}
 use Rattle.mqtt_world_laws.proofs.acceptance_lemmas.copies.Walks.{Walk}
 use Rattle.mqtt_world_laws.specs.delivery.HandedOver.{queued_by}
 use Rattle.mqtt_world_laws.proofs.delivery_lemmas.order.Among.{stand_more, stand_both, stand_self, stand_trans}
@@ -226,7 +226,7 @@ module _ (c : List ℕ) where
   Enters ds b d = (base : List CopyId) → AreIn base b.records.sessions → AreIn (base ++ filter_map entered_in ds) d.records.sessions
 
   -- that a queue has what stood there, and behind it what entered, is a law of every run
-  pub enters_walk : (limits : Limits) → Walk limits Enters
+  pub enters_walk : (limits : Capacity) → Walk limits Enters
   enters_walk limits = record {
     none = λ b base h. none_more base b.records.sessions h;
     next = λ xs ys a b d p q base h. joined_in base xs ys d.records.sessions (q (base ++ adds xs) (p base h));

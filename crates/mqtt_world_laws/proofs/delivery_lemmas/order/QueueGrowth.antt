@@ -34,7 +34,7 @@ use Rattle.mqtt_rules.specs.step.Laws.{AreWithin, IsCoherent}
 use Rattle.mqtt_rules.specs.step.Numbers.{HasGivenBirths}
 use Rattle.mqtt_rules.specs.step.State.{Broker, session_at, session_named}
 use Rattle.mqtt_rules.specs.step.Step.{at_moment, deeds, env_of, opening, unopened}
-use Rattle.mqtt_rules.specs.declared.step.Limits.{Limits}
+use Rattle.mqtt_rules.specs.declared.step.Capacity.{Capacity}
 use Rattle.mqtt_world_laws.specs.acceptance.Fair.{IsSteady}
 use Rattle.mqtt_world_laws.specs.acceptance.Spending.{run_spends, spending}
 use Rattle.mqtt_world_laws.proofs.acceptance_lemmas.publishers.Runs.{either}
@@ -183,7 +183,7 @@ module _ (c : List ℕ) where
   abbrev Grows : List Deed → Broker → Broker → Type 0
   Grows ds b d = (most : ℕ) → HasUpTo most b.records.sessions → HasUpTo (most + adds ds) d.records.sessions
 
-  walk : (limits : Limits) → Walk limits Grows
+  walk : (limits : Capacity) → Walk limits Grows
   walk limits = record {
     none = λ b most h. none_more most b.records.sessions h;
     next = λ xs ys a b d p q most h.
@@ -205,7 +205,7 @@ module _ (c : List ℕ) where
         subst (HasUpTo (most + adds ds)) (sym (done_sessions (rows_of_all ds first.records) (after_all ds first))) (deeds_upto most ds first good s.coherent.births h);
   }
 
-  run_grows : (limits : Limits) (ts : List Turn) (w : World) → AreWithin limits → IsSteady w.broker → run_spends limits ts w ≡ false → Grows (deeds_over limits ts w) w.broker (run limits ts w).broker
+  run_grows : (limits : Capacity) (ts : List Turn) (w : World) → AreWithin limits → IsSteady w.broker → run_spends limits ts w ≡ false → Grows (deeds_over limits ts w) w.broker (run limits ts w).broker
   run_grows limits [] w within s unspent = λ most h. none_more most w.broker.records.sessions h
   run_grows limits (t ∷ ts) w within s unspent =
       let v = turned limits t w in
@@ -236,7 +236,7 @@ module _ (c : List ℕ) where
           both.0 ((bytes_eq-Decides s.client c).0 both.1)
 
   -- over a run a queue grows by no more than the copies that enter
-  pub queue_grows : (limits : Limits) (ts : List Turn) (w : World) → AreWithin limits → IsSteady w.broker → run_spends limits ts w ≡ false
+  pub queue_grows : (limits : Capacity) (ts : List Turn) (w : World) → AreWithin limits → IsSteady w.broker → run_spends limits ts w ≡ false
       → copies_left c (run limits ts w) ≤ copies_left c w + length (filter_map entered_in (deeds_over limits ts w))
   queue_grows limits ts w within s unspent =
       at_end (copies_left c w + adds (deeds_over limits ts w)) (run limits ts w).broker.records (run_grows limits ts w within s unspent (copies_left c w) (at_start w.broker.records s.coherent))

@@ -20,7 +20,7 @@ use Rattle.mqtt_rules.proofs.step_lemmas.flight.FlightRows.{all_more}
 use Rattle.mqtt_rules.specs.step.Deeds.{Deed, Link as LinkDeed, output}
 use Rattle.mqtt_rules.specs.step.State.{Broker, MemberChoice}
 use Rattle.mqtt_rules.specs.step.Step.{Call, NewLine, at_moment, can_link, copy_of, deeds, stepped, told}
-use Rattle.mqtt_rules.specs.declared.step.Limits.{Limits}
+use Rattle.mqtt_rules.specs.declared.step.Capacity.{Capacity}
 use Rattle.mqtt_world_laws.specs.acceptance.Copies.{entered_from}
 use Rattle.mqtt_world_laws.specs.acceptance.Fair.{IsFair}
 use Rattle.mqtt_world_laws.specs.acceptance.Spending.{run_spends, spending}
@@ -131,7 +131,7 @@ module _ (Unread : Type 0) (K : List CopyId) (c : List ℕ) where
       let out = told set.limits set.choice w.now NewLine w.broker in
       each_mapped (AreTold Unread K) (AreTold Unread K) c w (calls set NewLine w) (receiver_told new out) (λ r. refl) refl
       (λ q e f k. record {
-        down = each_append (λ (d : Down). IsOne K d.copy) q.line.down (sent_to q.line.number new out.outputs) k.down (none (can_link (at_moment w.now w.broker)) q.line.number new);
+        down = each_append (λ (d : Down). IsOne K d.copy) q.line.down (sent_to q.line.number new out.outputs) k.down (none (can_link set.limits (at_moment w.now w.broker)) q.line.number new);
         ledger = k.ledger;
         once = k.once;
       }) h
@@ -221,7 +221,7 @@ module _ (Unread : Type 0) (K : List CopyId) (c : List ℕ) where
       let both : Some q ≡ Some r = sym first ∙ e in
       let same : q ≡ r = cc in
       subst (AreTold Unread K) same (h q f)
-  happens_told set (connect_end d clean) w q f tells one h = links_told set (next_line w.broker) d clean w h
+  happens_told set (connect_end d clean) w q f tells one h = links_told set (next_line set.limits w.broker) d clean w h
   happens_told set (give_up d) w q f tells one h = line_mapped d (λ l. gives_up l.link l) w (happens set (give_up d) w) refl (λ l k. given_up_one l.link l k) h
   happens_told set (publish d x) w q f tells one h = h
   happens_told set (subscribe d x) w q f tells one h =
@@ -240,7 +240,7 @@ module _ (Unread : Type 0) (K : List CopyId) (c : List ℕ) where
 
 -- ---- call by call
 
-module _ (Unread : Type 0) (c : List ℕ) (limits : Limits) where
+module _ (Unread : Type 0) (c : List ℕ) (limits : Capacity) where
   -- and of no others was it told
   pub record HaveTold (base come : List CopyId) (v : World) : Type 0 where
     pub come_so : HaveCome c limits base come v
@@ -426,7 +426,7 @@ ordered_so xs come ids differ h k each =
     let picked : stand_among (filter (is_among come) xs) (filter (is_among come) ids) ≡ true = part_stands (is_among come) xs ids k in
     subst (λ (zs : List CopyId). stand_among zs come ≡ true) (all_picked come xs each) (subst (λ (zs : List CopyId). stand_among (filter (is_among come) xs) zs ≡ true) (picks_same come ids differ h) picked)
 
-module _ (limits : Limits) (xs ys : List Turn) (w : World) (untouched : IsUntouched limits w) (fair : IsFair limits (xs ++ ys) w) (c : List ℕ) (q r : Receiver) (e : receiver_named c (run limits xs w) ≡ Some q) (f : receiver_named c (run limits (xs ++ ys) w) ≡ Some r) where
+module _ (limits : Capacity) (xs ys : List Turn) (w : World) (untouched : IsUntouched limits w) (fair : IsFair limits (xs ++ ys) w) (c : List ℕ) (q r : Receiver) (e : receiver_named c (run limits xs w) ≡ Some q) (f : receiver_named c (run limits (xs ++ ys) w) ≡ Some r) where
   -- what is known in the end, if at the beginning nothing was handed over and nothing was under way
   whole : (Unread : Type 0) → q.ledger ≡ [] → (Unread → q.once ≡ []) → q.line.down ≡ [] → Further Unread c limits (queue_at c (run limits xs w) ++ entered_from limits ys (run limits xs w)) (run limits ys (run limits xs w))
   whole Unread no_ledger none_read no_down =

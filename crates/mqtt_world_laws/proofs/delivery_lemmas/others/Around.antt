@@ -11,7 +11,7 @@ use Rattle.mqtt_world_model.specs.model.Lines.{Line, is_one_of}
 use Rattle.mqtt_world_model.specs.model.Seats.{HasPlace}
 use Rattle.mqtt_world_model.specs.model.World.{Stranger, World, publisher_named, receiver_named, with_receiver}
 use Rattle.mqtt_rules.specs.step.State.{Broker}
-use Rattle.mqtt_rules.specs.declared.step.Limits.{Limits}
+use Rattle.mqtt_rules.specs.declared.step.Capacity.{Capacity}
 use Rattle.mqtt_world_laws.specs.acceptance.Fair.{IsSteady}
 use Rattle.mqtt_world_laws.proofs.acceptance_lemmas.publishers.Ends.{all_mapped, find_publisher, find_receiver, found_its, found_not, is_some_mapped, named_receiver, only_client, only_receiver, whose}
 use Rattle.mqtt_world_laws.proofs.acceptance_lemmas.publishers.Changes.{with_end, KeepsName, KeepsTheName}
@@ -38,7 +38,7 @@ changed_its c g w r same e = found_its (λ (q : Receiver). q.client) c c g same 
 -- ---- all ends are changed, at whatever broker
 
 -- ends that change leave the world around it
-pub around_mapped : (c : List ℕ) (limits : Limits) (ns ms : List ℕ) (w : World) (b : Broker) (now : ℕ) (f : Publisher → Publisher) (g : Receiver → Receiver) (ss : List Stranger)
+pub around_mapped : (c : List ℕ) (limits : Capacity) (ns ms : List ℕ) (w : World) (b : Broker) (now : ℕ) (f : Publisher → Publisher) (g : Receiver → Receiver) (ss : List Stranger)
     → IsAround c limits ns w → IsSteady b → (HasPlace limits c w.broker.records → HasPlace limits c b.records) → IsTidy limits b
     → ((n : ℕ) → is_one_of (Some n) ms ≡ true → n ≤ b.given)
     → ((p : Publisher) → (f p).client ≡ p.client) → ((r : Receiver) → (g r).client ≡ r.client)
@@ -71,13 +71,13 @@ around_mapped c limits ns ms w b now f g ss a steady keeps tidy known f_same g_s
 -- ---- a receiver's session has a place
 
 -- by the receiver's own name
-pub its_place : (c : List ℕ) (limits : Limits) (ns : List ℕ) (w : World) (r : Receiver) → IsAround c limits ns w → receiver_named c w ≡ Some r → HasPlace limits r.client w.broker.records
+pub its_place : (c : List ℕ) (limits : Capacity) (ns : List ℕ) (w : World) (r : Receiver) → IsAround c limits ns w → receiver_named c w ≡ Some r → HasPlace limits r.client w.broker.records
 its_place c limits ns w r a e = subst (λ (x : List ℕ). HasPlace limits x w.broker.records) (sym (named_receiver c r w e)) (a.place (ap is_some e))
 
 -- ---- one end is changed
 
 -- the receiver itself is changed in any way; any other keeps to lines that are not its
-pub end_around : (c d : List ℕ) (limits : Limits) (ns : List ℕ) (w : World) (f : Publisher → Publisher) (g : Receiver → Receiver) → KeepsName f → KeepsTheName g
+pub end_around : (c d : List ℕ) (limits : Capacity) (ns : List ℕ) (w : World) (f : Publisher → Publisher) (g : Receiver → Receiver) → KeepsName f → KeepsTheName g
     → ((p : Publisher) → HasOthers ns w.broker.given p.line → HasOthers ns w.broker.given (f p).line)
     → ((r : Receiver) → HasOthers ns w.broker.given r.line → HasOthers ns w.broker.given (g r).line)
     → IsAround c limits ns w → IsAround c limits ns (with_end d f g w)
@@ -96,7 +96,7 @@ end_around c d limits ns w f g f_same g_same f_others g_others a =
     receiver_other false r (inr h) = inr h
 
 -- a change of another end leaves it standing
-pub end_others : (c d : List ℕ) (largest : ℕ) (limits : Limits) (ids : List CopyId) (ns : List ℕ) (w : World) (f : Publisher → Publisher) (g : Receiver → Receiver) → KeepsName f → KeepsTheName g
+pub end_others : (c d : List ℕ) (largest : ℕ) (limits : Capacity) (ids : List CopyId) (ns : List ℕ) (w : World) (f : Publisher → Publisher) (g : Receiver → Receiver) → KeepsName f → KeepsTheName g
     → ((p : Publisher) → HasOthers ns w.broker.given p.line → HasOthers ns w.broker.given (f p).line)
     → ((r : Receiver) → HasOthers ns w.broker.given r.line → HasOthers ns w.broker.given (g r).line)
     → IsNotIts c d w → StandsWith c largest limits ids ns w → StandsWith c largest limits ids ns (with_end d f g w)
@@ -117,7 +117,7 @@ none_changed P c f (p ∷ ps) none a = elim (cases_Bool (bytes_eq p.client c)) [
 ]
 
 -- a change of its own leaves the world around it
-pub own_around : (c : List ℕ) (limits : Limits) (ns : List ℕ) (w : World) (f : Publisher → Publisher) (g : Receiver → Receiver) → KeepsName f → KeepsTheName g → publisher_named c w ≡ None
+pub own_around : (c : List ℕ) (limits : Capacity) (ns : List ℕ) (w : World) (f : Publisher → Publisher) (g : Receiver → Receiver) → KeepsName f → KeepsTheName g → publisher_named c w ≡ None
     → IsAround c limits ns w → IsAround c limits ns (with_end c f g w)
 own_around c limits ns w f g f_same g_same none a = record {
   within = a.within;
@@ -139,7 +139,7 @@ own_around c limits ns w f g f_same g_same none a = record {
     by false r other h = h
 
 -- and it standing, if it is placed behind it
-pub own_stands : (c : List ℕ) (largest : ℕ) (limits : Limits) (ids : List CopyId) (ns : List ℕ) (w : World) (r : Receiver) (f : Publisher → Publisher) (g : Receiver → Receiver) → KeepsName f → KeepsTheName g
+pub own_stands : (c : List ℕ) (largest : ℕ) (limits : Capacity) (ids : List CopyId) (ns : List ℕ) (w : World) (r : Receiver) (f : Publisher → Publisher) (g : Receiver → Receiver) → KeepsName f → KeepsTheName g
     → receiver_named c w ≡ Some r → IsAround c limits ns w → IsPlaced largest ids ns (g r) w.broker → StandsWith c largest limits ids ns (with_end c f g w)
 own_stands c largest limits ids ns w r f g f_same g_same e a placed = record {
   around = own_around c limits ns w f g f_same g_same (a.alone (ap is_some e)) a;

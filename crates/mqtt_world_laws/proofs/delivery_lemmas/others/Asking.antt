@@ -12,7 +12,7 @@ use Rattle.mqtt_world_model.specs.model.Run.{read_first}
 use Rattle.mqtt_world_model.specs.model.World.{Setting, World, asks, break, call_of, first_step, input_on, lost_on, old_to_broker, pump, pump_on, taken_old, taken_up, to_broker, view_of, with_line}
 use Rattle.mqtt_world_model.proofs.model_lemmas.others.Lists.{all_find}
 use Rattle.mqtt_rules.specs.step.Step.{Call, Pump}
-use Rattle.mqtt_rules.specs.declared.step.Limits.{Limits}
+use Rattle.mqtt_rules.specs.declared.step.Capacity.{Capacity}
 use Rattle.mqtt_world_laws.specs.acceptance.Spending.{spending}
 use Rattle.mqtt_world_laws.proofs.acceptance_lemmas.publishers.Ends.{named_receiver}
 use Rattle.mqtt_world_laws.proofs.acceptance_lemmas.publishers.Kept.{left_apart}
@@ -25,7 +25,7 @@ use Rattle.mqtt_world_laws.proofs.delivery_lemmas.others.Outside.{IsOutside, if_
 -- ---- their packets, and their calls
 
 -- what another end has under way
-pub foreign : (c d : List ℕ) (limits : Limits) (ns : List ℕ) (w : World) → IsAround c limits ns w → (d ≡ c → ⊥) → IsForeign c (IsOutOf ns) w.broker.given (view_of d w)
+pub foreign : (c d : List ℕ) (limits : Capacity) (ns : List ℕ) (w : World) → IsAround c limits ns w → (d ≡ c → ⊥) → IsForeign c (IsOutOf ns) w.broker.given (view_of d w)
 foreign c d limits ns w a differ =
     foreign_of c d (IsOutOf ns) w.broker.given w differ
     (λ p e. (all_find (IsOtherPublisher ns w.broker.given) (λ (z : Publisher). bytes_eq z.client d) p w.publishers a.publishers e).0)
@@ -49,7 +49,7 @@ pump_outside c ns given (Some n) call free e = let is : Pump n ≡ call = cc in 
 -- ---- another end's packet is read
 
 -- without its copies and lines
-abbrev pub hidden : (first : List CopyId) (c : List ℕ) (largest : ℕ) (limits : Limits) (ids : List CopyId) (ns : List ℕ) (w : World) → BeginWith first ids → StandsWith c largest limits ids ns w → Stands first c largest limits w
+abbrev pub hidden : (first : List CopyId) (c : List ℕ) (largest : ℕ) (limits : Capacity) (ids : List CopyId) (ns : List ℕ) (w : World) → BeginWith first ids → StandsWith c largest limits ids ns w → Stands first c largest limits w
 hidden first c largest limits ids ns w g h = record { ids = ids; grown = g; ns = ns; standing = h }
 
 -- the broker's reading of another's line leaves the receiver standing

@@ -9,7 +9,7 @@ use Rattle.mqtt_world_model.specs.model.Lines.{gives_up, joined, left, stands}
 use Rattle.mqtt_world_model.specs.model.Run.{Turn, run, setting, turned}
 use Rattle.mqtt_world_model.specs.model.World.{Asking, Event, Setting, World, answers_rest, ask, asks, asks_wish, before, break, call_of, call_of_stranger, calls, calls_if, clock, comes, connect_end, first_step, give_up, happens, held_count, is_bad, is_bad_name, is_end, linked_at, links, next_held, next_line, old_to_broker, publish, publisher, publisher_named, pump, receiver, receiver_named, receiver_restarted, receiver_told, restart, restarts, stop_after, stop_before, stranger, stranger_named, subscribe, tick, to_broker, to_end, may_take}
 use Rattle.mqtt_rules.specs.step.Step.{Call, NewLine, stepped, told}
-use Rattle.mqtt_rules.specs.declared.step.Limits.{Limits}
+use Rattle.mqtt_rules.specs.declared.step.Capacity.{Capacity}
 use Rattle.mqtt_world_laws.proofs.acceptance_lemmas.publishers.Ends.{all_appended, all_mapped, find_first, find_last, find_receiver, only_receiver, either}
 use Rattle.mqtt_world_laws.proofs.delivery_lemmas.others.Around.{on_back}
 use Rattle.mqtt_world_laws.proofs.delivery_lemmas.others.Like.{moves_reading}
@@ -107,7 +107,7 @@ comes_new d window aliases w good =
 happens_found : (set : Setting) (x : Event) (w : World) → is_bad x w ≡ false → AreFound w.receivers → AreFound (happens set x w).receivers
 happens_found set (publisher d) w good h = h
 happens_found set (receiver d window aliases) w good h = newcomer (new_receiver d window aliases w.broker.records.births) w.receivers (comes_new d window aliases w good) h
-happens_found set (connect_end d clean) w good h = links_found set (next_line w.broker) d clean w h
+happens_found set (connect_end d clean) w good h = links_found set (next_line set.limits w.broker) d clean w h
 happens_found set (give_up d) w good h = one_changed d (on_back (λ l. gives_up l.link l)) w.receivers (λ r. refl) h
 happens_found set (publish d x) w good h = h
 happens_found set (subscribe d x) w good h = one_changed d (λ r. asks_wish (stands r.line.number w.broker) x r) w.receivers (λ r. refl) h
@@ -119,7 +119,7 @@ happens_found set (stop_before a) w good h = restarts_found set (before set a w)
 happens_found set (stop_after a) w good h = restarts_found set (first_step set a w) (first_found set a w h)
 
 -- in every run receivers have found names
-pub run_found : (limits : Limits) (ts : List Turn) (w : World) → AreFound w.receivers → AreFound (run limits ts w).receivers
+pub run_found : (limits : Capacity) (ts : List Turn) (w : World) → AreFound w.receivers → AreFound (run limits ts w).receivers
 run_found limits [] w h = h
 run_found limits (t ∷ ts) w h = run_found limits ts (turned limits t w) (by (is_bad t.event w) refl)
   where

@@ -30,7 +30,7 @@ use Rattle.mqtt_world_laws.proofs.delivery_lemmas.order.Growing.{begin_then}
 
 -- ---- its copies and lines
 
-joined_along : (o : Option ℕ) (largest : ℕ) (ids : List CopyId) (ns : List ℕ) (set : Setting) (now : ℕ) (clean : Bool) (r : Receiver) (b : Broker) → GoesAlong o largest ids ns r b → MayComeBack clean r b
+joined_along : (o : Option ℕ) (largest : ℕ) (ids : List CopyId) (ns : List ℕ) (set : Setting) (now : ℕ) (clean : Bool) (r : Receiver) (b : Broker) → GoesAlong o largest ids ns r b → MayComeBack set.limits clean r b
     → GoesAlong o largest ids (suc b.given ∷ ns) (receiver_joined set.limits set.choice now clean r b) (stepped set.limits set.choice now NewLine b)
 joined_along None largest ids ns set now clean r b k may = joins_awaiting largest ids ns set.limits set.choice now clean r b k may
 joined_along (Some birth) largest ids ns set now clean r b k may = joins_in_step largest ids birth ns set.limits set.choice now clean r b k may
@@ -46,7 +46,7 @@ wider n m ns h = by (nat_eq 0 n) h
     by true h = refl
     by false h = or_right (nat_eq m n) (is_one_of (Some n) ns) h
 
-joined_placed : (largest : ℕ) (ids : List CopyId) (ns : List ℕ) (set : Setting) (now : ℕ) (clean : Bool) (r : Receiver) (b : Broker) → IsPlaced largest ids ns r b → MayComeBack clean r b → ((n : ℕ) → is_one_of (Some n) ns ≡ true → n ≤ b.given)
+joined_placed : (largest : ℕ) (ids : List CopyId) (ns : List ℕ) (set : Setting) (now : ℕ) (clean : Bool) (r : Receiver) (b : Broker) → IsPlaced largest ids ns r b → MayComeBack set.limits clean r b → ((n : ℕ) → is_one_of (Some n) ns ≡ true → n ≤ b.given)
     → IsPlaced largest ids (suc b.given ∷ ns) (receiver_joined set.limits set.choice now clean r b) (stepped set.limits set.choice now NewLine b)
 joined_placed largest ids ns set now clean r b placed may known = record {
   birth = placed.birth;
@@ -70,7 +70,7 @@ others_off n m ns le h = elim (cases_Bool (nat_eq (suc m) n)) [
   | inr other ↦ rw other h
 ]
 
-module _ (first : List CopyId) (c d : List ℕ) (clean : Bool) (largest : ℕ) (set : Setting) (w : World) (can : can_link w.broker ≡ true) where
+module _ (first : List CopyId) (c d : List ℕ) (clean : Bool) (largest : ℕ) (set : Setting) (w : World) (can : can_link set.limits w.broker ≡ true) where
   abbrev next : ℕ
   next = suc w.broker.given
 
@@ -130,7 +130,7 @@ module _ (first : List CopyId) (c d : List ℕ) (clean : Bool) (largest : ℕ) (
   its_joins ids ns r g h e is_away_ carried =
       let out = told set.limits set.choice w.now NewLine w.broker in
       let placed = subst (IsSeen largest ids ns w.broker) e h.seen in
-      let may : MayComeBack clean r w.broker = record { can = can; given = h.around.steady.lines.given; away = is_away_; carried = carried } in
+      let may : MayComeBack set.limits clean r w.broker = record { can = can; given = h.around.steady.lines.given; away = is_away_; carried = carried } in
       record {
         ids = ids;
         grown = g;
@@ -155,9 +155,9 @@ so_clean false false h is = absurd cc
 -- an end that connects leaves it standing
 pub joined_stands : (first : List CopyId) (c d : List ℕ) (clean : Bool) (largest : ℕ) (set : Setting) (w : World) → Stands first c largest set.limits w → is_bad (connect_end d clean) w ≡ false → begins_clean (connect_end d clean) w ≡ true
     → Stands first c largest set.limits (happens set (connect_end d clean) w)
-joined_stands first c d clean largest set w stay good carried = by (can_link w.broker) refl
+joined_stands first c d clean largest set w stay good carried = by (can_link set.limits w.broker) refl
   where
-    by : (t : Bool) → can_link w.broker ≡ t → Stands first c largest set.limits (links set (cond t (Some (suc w.broker.given)) None) d clean w)
+    by : (t : Bool) → can_link set.limits w.broker ≡ t → Stands first c largest set.limits (links set (cond t (Some (suc w.broker.given)) None) d clean w)
     by false can = stay
     by true can = elim (whose_name c d w) [
       | inr not_its ↦ other_joins first c d clean largest set w can stay.ids stay.ns stay.grown stay.standing not_its

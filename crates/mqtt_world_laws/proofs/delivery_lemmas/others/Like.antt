@@ -32,7 +32,7 @@ use Rattle.mqtt_rules.specs.step.Deeds.{fresh_line}
 use Rattle.mqtt_rules.specs.step.Lines.{line_number}
 use Rattle.mqtt_rules.specs.step.State.{Line as BrokerLine, Broker, MemberChoice, line_at}
 use Rattle.mqtt_rules.specs.step.Step.{Call, NewLine, Outcome, at_moment, can_link, stepped, told}
-use Rattle.mqtt_rules.specs.declared.step.Limits.{Limits}
+use Rattle.mqtt_rules.specs.declared.step.Capacity.{Capacity}
 use Rattle.mqtt_world_laws.specs.receiver.Handing.{IsRun, receiver_joined}
 use Rattle.mqtt_world_laws.specs.receiver.Seen.{Numbering, answered, heard, heard_in, publish_heard, seen}
 use Rattle.mqtt_world_laws.specs.delivery.Standing.{line_like, packet_like, publisher_like}
@@ -317,7 +317,7 @@ told_like b out r =
     λ i. record (publisher_like (receiver_told b out r)) { line = record (line_like (receiver_told b out r).line) { up = ups i; old = olds i } }
 
 -- a call of another's keeps the seat
-pub seat_of_others : (limits : Limits) (choice : MemberChoice) (now : ℕ) (call : Call) (o : Option ℕ) (k : ℕ) (r : Receiver) (b : Broker) → Seat o k (publisher_like r) b → IsNamed r.client
+pub seat_of_others : (limits : Capacity) (choice : MemberChoice) (now : ℕ) (call : Call) (o : Option ℕ) (k : ℕ) (r : Receiver) (b : Broker) → Seat o k (publisher_like r) b → IsNamed r.client
     → IsFarCall r.client k call → IsOff r.line.number call → IsOff r.line.old_number call
     → Seat o k (publisher_like (receiver_told (stepped limits choice now call b) (told limits choice now call b) r)) (stepped limits choice now call b)
 seat_of_others limits choice now call o k r b s named far own old =
@@ -350,8 +350,8 @@ fresh_glance n now [] low = let it = nat_eq_equiv.refl n in rw it refl
 fresh_glance n now (l ∷ ls) low = rw (unlike l.number n low.0) (fresh_glance n now ls low.1)
 
 -- connecting keeps it
-pub seat_joined : (limits : Limits) (choice : MemberChoice) (now : ℕ) (clean : Bool) (o : Option ℕ) (k : ℕ) (r : Receiver) (b : Broker) → Seat o k (publisher_like r) b → IsNamed r.client
-    → can_link b ≡ true → IsBelow line_number (suc b.given) b.lines
+pub seat_joined : (limits : Capacity) (choice : MemberChoice) (now : ℕ) (clean : Bool) (o : Option ℕ) (k : ℕ) (r : Receiver) (b : Broker) → Seat o k (publisher_like r) b → IsNamed r.client
+    → can_link limits b ≡ true → IsBelow line_number (suc b.given) b.lines
     → Seat o k (publisher_like (receiver_joined limits choice now clean r b)) (stepped limits choice now NewLine b)
 seat_joined limits choice now clean o k r b s named can low =
     let n = suc b.given in

@@ -22,7 +22,7 @@ use Rattle.mqtt_rules.proofs.step_lemmas.numbers.NumberSteps.{step_fell}
 use Rattle.mqtt_rules.specs.step.Deeds.{after_all, rows_of_all}
 use Rattle.mqtt_rules.specs.step.State.{Broker, MemberChoice, session_named}
 use Rattle.mqtt_rules.specs.step.Step.{Lost, at_moment, deeds, stepped, told}
-use Rattle.mqtt_rules.specs.declared.step.Limits.{Limits}
+use Rattle.mqtt_rules.specs.declared.step.Capacity.{Capacity}
 use Rattle.mqtt_world_laws.specs.acceptance.Fair.{IsSteady}
 use Rattle.mqtt_world_laws.specs.acceptance.Spending.{spending}
 use Rattle.mqtt_world_laws.specs.receiver.Handing.{IsRun, receiver_lost}
@@ -122,7 +122,7 @@ his_none client (Some j) k b none his = let clash : true ≡ false = sym his.1 �
 
 -- ---- the line is lost at the broker
 
-lost_like : (limits : Limits) (choice : MemberChoice) (now n : ℕ) (r : Receiver) (b : Broker) → lost_by limits choice now n (publisher_like r) b ≡ publisher_like (receiver_lost limits choice now n r b)
+lost_like : (limits : Capacity) (choice : MemberChoice) (now n : ℕ) (r : Receiver) (b : Broker) → lost_by limits choice now n (publisher_like r) b ≡ publisher_like (receiver_lost limits choice now n r b)
 lost_like limits choice now n r b = ap (λ (p : Publisher). record p { line = left p.line }) (told_like (stepped limits choice now (Lost n) b) (told limits choice now (Lost n) b) r)
 
 less_self : (n : ℕ) → nat_eq n (suc n) ≡ false
@@ -131,19 +131,19 @@ less_self n = elim (cases_Bool (nat_eq n (suc n))) [
   | inr other ↦ other
 ]
 
-still_none : (limits : Limits) (choice : MemberChoice) (now n : ℕ) (r : Receiver) (b : Broker) → IsNamed r.client → session_named r.client b.records ≡ None → session_named r.client (stepped limits choice now (Lost n) b).records ≡ None
+still_none : (limits : Capacity) (choice : MemberChoice) (now n : ℕ) (r : Receiver) (b : Broker) → IsNamed r.client → session_named r.client b.records ≡ None → session_named r.client (stepped limits choice now (Lost n) b).records ≡ None
 still_none limits choice now n r b named none =
     let ds = deeds limits choice now (Lost n) b in
     let first = at_moment now b in
     let its = others_of limits choice now (Lost n) r.client None (suc n) b none named.plain (less_self n) in
     (remains_done r.client None (suc n) (rows_of_all ds first.records) first (after_all ds first) (remains r.client None (suc n) ds first (moved r.client None (suc n) now b none) its)).his
 
-idle_lost : (o : Option ℕ) (largest : ℕ) (ids : List CopyId) (ns : List ℕ) (limits : Limits) (choice : MemberChoice) (now n : ℕ) (r : Receiver) (b : Broker) → GoesAlong o largest ids ns r b → IsIdle n b
+idle_lost : (o : Option ℕ) (largest : ℕ) (ids : List CopyId) (ns : List ℕ) (limits : Capacity) (choice : MemberChoice) (now n : ℕ) (r : Receiver) (b : Broker) → GoesAlong o largest ids ns r b → IsIdle n b
     → GoesAlong o largest ids ns (receiver_lost limits choice now n r b) (stepped limits choice now (Lost n) b)
 idle_lost None largest ids ns limits choice now n r b along idle = idle_loss_awaiting largest ids ns limits choice now n r b along idle
 idle_lost (Some birth) largest ids ns limits choice now n r b along idle = idle_loss_in_step largest ids birth ns limits choice now n r b along idle
 
-lost_along : (o : Option ℕ) (largest : ℕ) (ids : List CopyId) (ns : List ℕ) (limits : Limits) (choice : MemberChoice) (now n k : ℕ) (r : Receiver) (b : Broker) → GoesAlong o largest ids ns r b → IsSteady b
+lost_along : (o : Option ℕ) (largest : ℕ) (ids : List CopyId) (ns : List ℕ) (limits : Capacity) (choice : MemberChoice) (now n k : ℕ) (r : Receiver) (b : Broker) → GoesAlong o largest ids ns r b → IsSteady b
     → r.line.number ≡ Some n → IsApart r.line.number r.line.old_number → Present o k (line_like r.line) b → GoesAlong o largest ids ns (receiver_lost limits choice now n r b) (stepped limits choice now (Lost n) b)
 lost_along o largest ids ns limits choice now n k r b along steady is apart (absent none up) = let clash : None ≡ Some n = sym none ∙ is in absurd cc
 lost_along o largest ids ns limits choice now n k r b along steady is apart (closed m at up idle none) =
@@ -163,7 +163,7 @@ lost_along o largest ids ns limits choice now n k r b along steady is apart (joi
     (subst (λ (z : ℕ). IsInStep largest ids birth ns (receiver_lost limits choice now z r b) (stepped limits choice now (Lost z) b)) (x.3 ∙ same) lost)
 
 -- the loss of its line leaves the receiver placed
-pub lost_placed : (largest : ℕ) (ids : List CopyId) (ns : List ℕ) (limits : Limits) (choice : MemberChoice) (now n : ℕ) (r : Receiver) (b : Broker) → IsPlaced largest ids ns r b → IsSteady b → r.line.number ≡ Some n
+pub lost_placed : (largest : ℕ) (ids : List CopyId) (ns : List ℕ) (limits : Capacity) (choice : MemberChoice) (now n : ℕ) (r : Receiver) (b : Broker) → IsPlaced largest ids ns r b → IsSteady b → r.line.number ≡ Some n
     → IsPlaced largest ids ns (receiver_lost limits choice now n r b) (stepped limits choice now (Lost n) b)
 lost_placed largest ids ns limits choice now n r b placed steady is =
     let x = loses limits choice now n placed.birth placed.line (publisher_like r) b [] placed.seat placed.named placed.apart is in

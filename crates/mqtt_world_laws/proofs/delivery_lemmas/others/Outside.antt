@@ -16,7 +16,7 @@ use Rattle.mqtt_rules.proofs.step_lemmas.numbers.NumberSteps.{step_fell}
 use Rattle.mqtt_rules.specs.step.Numbers.{NoneFell}
 use Rattle.mqtt_rules.specs.step.State.{Broker, MemberChoice}
 use Rattle.mqtt_rules.specs.step.Step.{BadInput, Call, Input, Lost, NewLine, Pump, Tick, at_moment, stepped, told}
-use Rattle.mqtt_rules.specs.declared.step.Limits.{Limits}
+use Rattle.mqtt_rules.specs.declared.step.Capacity.{Capacity}
 use Rattle.mqtt_world_laws.specs.acceptance.Spending.{spending}
 use Rattle.mqtt_world_laws.proofs.acceptance_lemmas.publishers.Ends.{all_turned, find_receiver, given_later, is_some_mapped, line_later, named_receiver, either}
 use Rattle.mqtt_world_laws.proofs.acceptance_lemmas.publishers.Around.{IsCallApart, apart_far, apart_off}
@@ -116,7 +116,7 @@ placed_on largest ids more ns ms birth line o r q b c placed fell client new dif
 }
 
 -- a call for others, with the seat that it has then
-pub placed_others : (largest : ℕ) (ids : List CopyId) (ns : List ℕ) (limits : Limits) (choice : MemberChoice) (now : ℕ) (call : Call) (r : Receiver) (b : Broker) (placed : IsPlaced largest ids ns r b) → IsTidy limits b
+pub placed_others : (largest : ℕ) (ids : List CopyId) (ns : List ℕ) (limits : Capacity) (choice : MemberChoice) (now : ℕ) (call : Call) (r : Receiver) (b : Broker) (placed : IsPlaced largest ids ns r b) → IsTidy limits b
     → IsCallOfOthers r.client ns call (at_moment now b) → Seat placed.birth placed.line (publisher_like (receiver_called limits choice now call r b)) (stepped limits choice now call b)
     → GoesFurther largest ids ns (receiver_called limits choice now call r b) (stepped limits choice now call b)
 placed_others largest ids ns limits choice now call r b placed tidy its seat = by placed.birth placed.along placed.seat.his seat
@@ -146,7 +146,7 @@ placed_others largest ids ns limits choice now call r b placed tidy its seat = b
         }
 
 -- a call from outside leaves the receiver placed
-pub placed_called : (largest : ℕ) (ids : List CopyId) (ns : List ℕ) (limits : Limits) (choice : MemberChoice) (now : ℕ) (call : Call) (r : Receiver) (b : Broker) → IsPlaced largest ids ns r b → IsTidy limits b → IsOutside r.client ns call
+pub placed_called : (largest : ℕ) (ids : List CopyId) (ns : List ℕ) (limits : Capacity) (choice : MemberChoice) (now : ℕ) (call : Call) (r : Receiver) (b : Broker) → IsPlaced largest ids ns r b → IsTidy limits b → IsOutside r.client ns call
     → GoesFurther largest ids ns (receiver_called limits choice now call r b) (stepped limits choice now call b)
 placed_called largest ids ns limits choice now call r b placed tidy out =
     let has = lines_of placed.birth largest ids ns r b placed.along in

@@ -16,7 +16,7 @@ use Rattle.mqtt_world_model.proofs.model_lemmas.seats.Seats.{kept_of}
 use Rattle.mqtt_rules.proofs.step_lemmas.numbers.NumberSteps.{opening_fell}
 use Rattle.mqtt_rules.specs.step.Numbers.{NoneFell}
 use Rattle.mqtt_rules.specs.step.State.{Line as BrokerLine, Broker, MemberChoice, session_named}
-use Rattle.mqtt_rules.specs.declared.step.Limits.{Limits}
+use Rattle.mqtt_rules.specs.declared.step.Capacity.{Capacity}
 use Rattle.mqtt_world_laws.specs.acceptance.Spending.{spending}
 use Rattle.mqtt_world_laws.proofs.acceptance_lemmas.publishers.Ends.{all_mapped, anything, find_receiver, only_receiver, unlined}
 use Rattle.mqtt_world_laws.proofs.acceptance_lemmas.publishers.FirstPackets.{Takes, takes_apart, takes_old, takes_up}
@@ -41,7 +41,7 @@ none_free [] = tt
 none_free (l ∷ ls) = ((λ inside. absurd cc), none_free ls)
 
 -- a restart leaves the receiver placed
-pub placed_restarted : (largest : ℕ) (ids : List CopyId) (ns : List ℕ) (limits : Limits) (choice : MemberChoice) (now : ℕ) (r : Receiver) (b : Broker) → IsPlaced largest ids ns r b → IsTidy limits b
+pub placed_restarted : (largest : ℕ) (ids : List CopyId) (ns : List ℕ) (limits : Capacity) (choice : MemberChoice) (now : ℕ) (r : Receiver) (b : Broker) → IsPlaced largest ids ns r b → IsTidy limits b
     → GoesFurther largest ids [] (receiver_restarted r) (reopened limits choice now b)
 placed_restarted largest ids ns limits choice now r b placed tidy = by placed.birth placed.along placed.seat.his
   where
@@ -99,7 +99,7 @@ RestsAs largest ids ns b None = (ids ≡ []) × (ns ≡ [])
 RestsAs largest ids ns b (Some q) = Rests largest ids ns q b
 
 -- what is asked of the world around a receiver for a restart
-pub record MayRestart (first : List CopyId) (c : List ℕ) (largest : ℕ) (limits : Limits) (w : World) : Type 0 where
+pub record MayRestart (first : List CopyId) (c : List ℕ) (largest : ℕ) (limits : Capacity) (w : World) : Type 0 where
   pub ids : List CopyId
   pub grown : BeginWith first ids
   pub ns : List ℕ
@@ -111,7 +111,7 @@ rests_of largest ids ns b None h = h
 rests_of largest ids ns b (Some r) h = record { before = r; placed = h; same = refl }
 
 -- who stands may go through a restart
-pub may_restart : (first : List CopyId) (c : List ℕ) (largest : ℕ) (limits : Limits) (w : World) → Stands first c largest limits w → MayRestart first c largest limits w
+pub may_restart : (first : List CopyId) (c : List ℕ) (largest : ℕ) (limits : Capacity) (w : World) → Stands first c largest limits w → MayRestart first c largest limits w
 may_restart first c largest limits w s = record {
   ids = s.ids;
   grown = s.grown;
@@ -160,7 +160,7 @@ restart_stands first c largest set w h unspent = by (receiver_named c w) h.seen 
 
 -- ---- a stop before the first step: a packet that was taken off a line is lost with the line
 
-taken_rests : (first : List CopyId) (c d : List ℕ) (largest : ℕ) (limits : Limits) (w : World) (f : Line Sent → Line Sent) (g : Line Back → Line Back) → Takes f → Takes g
+taken_rests : (first : List CopyId) (c d : List ℕ) (largest : ℕ) (limits : Capacity) (w : World) (f : Line Sent → Line Sent) (g : Line Back → Line Back) → Takes f → Takes g
     → ((r : Receiver) → receiver_restarted (on_back g r) ≡ receiver_restarted r) → Stands first c largest limits w → MayRestart first c largest limits (with_line d f g w)
 taken_rests first c d largest limits w f g f_takes g_takes lost s = record {
   ids = s.ids;

@@ -3,7 +3,7 @@ use Rattle.std.proofs.Common.{◌≡◌, ℕ, Bool, true, false, cond, List, [],
 use Rattle.mqtt_base.specs.declared.session.CopyId.{CopyId}
 use Rattle.mqtt_world_model.specs.model.Run.{Turn, are_beginnings_clean, begins_clean, read_at, read_first, read_in, read_opening, run, setting, turned}
 use Rattle.mqtt_world_model.specs.model.World.{Event, Setting, World, ask, clock, connect_end, first_step, give_up, happens, is_bad, publish, publisher, receiver, restart, stop_after, stop_before, subscribe, to_end}
-use Rattle.mqtt_rules.specs.declared.step.Limits.{Limits}
+use Rattle.mqtt_rules.specs.declared.step.Capacity.{Capacity}
 use Rattle.mqtt_world_laws.specs.acceptance.Spending.{run_spends, spending}
 use Rattle.mqtt_world_laws.proofs.acceptance_lemmas.publishers.Runs.{both_true, either}
 use Rattle.mqtt_world_laws.proofs.acceptance_lemmas.copies.Walks.{turn_goes}
@@ -22,7 +22,7 @@ use Rattle.mqtt_world_laws.proofs.delivery_lemmas.broker.Unused.{unused_kept}
 
 -- ---- an event that isn't bad
 
-as_before : (first : List CopyId) (c : List ℕ) (largest : ℕ) (limits : Limits) (ids : List CopyId) (ns : List ℕ) (w : World) → BeginWith first ids → StandsWith c largest limits ids ns w → Stands first c largest limits w
+as_before : (first : List CopyId) (c : List ℕ) (largest : ℕ) (limits : Capacity) (ids : List CopyId) (ns : List ℕ) (w : World) → BeginWith first ids → StandsWith c largest limits ids ns w → Stands first c largest limits w
 as_before first c largest limits ids ns w g h = record { ids = ids; grown = g; ns = ns; standing = h }
 
 module _ (first : List CopyId) (c : List ℕ) where
@@ -46,7 +46,7 @@ module _ (first : List CopyId) (c : List ℕ) where
 -- ---- a turn, and a run
 
 -- behind a turn copies fit the receiver's line
-pub fit_after : (first : List CopyId) (c : List ℕ) (limits : Limits) (t : Turn) (w : World) → Stands first c any_size limits w → IsFit c w → read_at spending (setting limits t) t.event w ≡ false → IsFit c (turned limits t w)
+pub fit_after : (first : List CopyId) (c : List ℕ) (limits : Capacity) (t : Turn) (w : World) → Stands first c any_size limits w → IsFit c w → read_at spending (setting limits t) t.event w ≡ false → IsFit c (turned limits t w)
 fit_after first c limits t w s f unspent =
     let a = s.standing.around in
     record {
@@ -58,12 +58,12 @@ fit_after first c limits t w s f unspent =
     }
 
 -- it stands, in a world that is as the laws of its own packets ask
-pub record IsKept (first : List CopyId) (c : List ℕ) (limits : Limits) (w : World) : Type 0 where
+pub record IsKept (first : List CopyId) (c : List ℕ) (limits : Capacity) (w : World) : Type 0 where
   pub stands : Stands first c any_size limits w
   pub fit : IsFit c w
 
 -- a turn keeps what is asked of a receiver
-pub turn_kept : (first : List CopyId) (c : List ℕ) (limits : Limits) (t : Turn) (w : World) → IsKept first c limits w → begins_clean t.event w ≡ true → read_at spending (setting limits t) t.event w ≡ false → IsKept first c limits (turned limits t w)
+pub turn_kept : (first : List CopyId) (c : List ℕ) (limits : Capacity) (t : Turn) (w : World) → IsKept first c limits w → begins_clean t.event w ≡ true → read_at spending (setting limits t) t.event w ≡ false → IsKept first c limits (turned limits t w)
 turn_kept first c limits t w k carried unspent = record { stands = by (is_bad t.event w) refl unspent; fit = fit_after first c limits t w k.stands k.fit unspent }
   where
     set : Setting
@@ -74,7 +74,7 @@ turn_kept first c limits t w k carried unspent = record { stands = by (is_bad t.
     by false is u = happens_stands first c t.event set w k.stands k.fit is carried u
 
 -- so does a run
-pub run_kept : (first : List CopyId) (c : List ℕ) (limits : Limits) (ts : List Turn) (w : World) → IsKept first c limits w → run_spends limits ts w ≡ false → are_beginnings_clean limits ts w ≡ true → IsKept first c limits (run limits ts w)
+pub run_kept : (first : List CopyId) (c : List ℕ) (limits : Capacity) (ts : List Turn) (w : World) → IsKept first c limits w → run_spends limits ts w ≡ false → are_beginnings_clean limits ts w ≡ true → IsKept first c limits (run limits ts w)
 run_kept first c limits [] w k unspent carried = k
 run_kept first c limits (t ∷ ts) w k unspent carried =
     let costs = either (read_at spending (setting limits t) t.event w) (run_spends limits ts (turned limits t w)) unspent in

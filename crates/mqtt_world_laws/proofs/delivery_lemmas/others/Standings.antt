@@ -9,7 +9,7 @@ use Rattle.mqtt_world_model.specs.model.Laws.{copies_in, handed_count, released_
 use Rattle.mqtt_world_model.specs.model.World.{World, publisher_named, receiver_named}
 use Rattle.mqtt_rules.specs.step.Laws.{AreWithin}
 use Rattle.mqtt_rules.specs.step.State.{session_named}
-use Rattle.mqtt_rules.specs.declared.step.Limits.{Limits}
+use Rattle.mqtt_rules.specs.declared.step.Capacity.{Capacity}
 use Rattle.mqtt_world_laws.specs.acceptance.Fair.{IsNew}
 use Rattle.mqtt_world_laws.specs.receiver.Served.{IsTidy}
 use Rattle.mqtt_world_laws.specs.receiver.Own.{RunsAlone}
@@ -20,7 +20,7 @@ use Rattle.mqtt_records.specs.lists.Distinct.{AllDiffer}
 use Rattle.mqtt_rules.specs.step.State.{Broker}
 
 -- in a new world a receiver stands
-pub new_stands : (c : List ℕ) (largest : ℕ) (limits : Limits) (w : World) → AreWithin limits → IsTidy limits w.broker → IsNew w → Stands [] c largest limits w
+pub new_stands : (c : List ℕ) (largest : ℕ) (limits : Capacity) (w : World) → AreWithin limits → IsTidy limits w.broker → IsNew w → Stands [] c largest limits w
 new_stands c largest limits w within tidy new = record {
   ids = [];
   grown = ([], refl);
@@ -56,7 +56,7 @@ runs_alone : (o : Option ℕ) (largest : ℕ) (ids : List CopyId) (ns : List ℕ
 runs_alone None largest ids ns r b k differ = k.runs (place_of ids) (places_number ids differ)
 runs_alone (Some birth) largest ids ns r b k differ = let x = k.runs (place_of ids) (places_number ids differ) in record { after = x.after; same = x.same; run_is = x.run_is }
 
-module _ (c : List ℕ) (largest : ℕ) (limits : Limits) (ids : List CopyId) (ns : List ℕ) (r : Receiver) (w : World) (h : StandsWith c largest limits ids ns w) (e : receiver_named c w ≡ Some r) where
+module _ (c : List ℕ) (largest : ℕ) (limits : Capacity) (ids : List CopyId) (ns : List ℕ) (r : Receiver) (w : World) (h : StandsWith c largest limits ids ns w) (e : receiver_named c w ≡ Some r) where
   -- what a receiver that stands sees is a run of its hop
   pub runs_so : RunsAlone (place_of ids) largest ids r w.broker
   runs_so = let placed = subst (IsSeen largest ids ns w.broker) e h.seen in runs_alone placed.birth largest ids ns r w.broker placed.along placed.told.differ

@@ -7,7 +7,7 @@ use Rattle.mqtt_packet.specs.stream.Front.{first_of}
 use Rattle.mqtt_rules.specs.step.Step.{Call, NewLine, can_link, stepped}
 use Rattle.mqtt_world_model.specs.model.World.{Stranger, World, Setting, publisher_named, receiver_named, stranger_named, calls, calls_if, held_after, linked_at, comes, call_of_stranger, next_held, answers_rest, held_count, front_names, bytes_name, bytes_held, is_bad_asking, asks, first_step, stranger}
 use Rattle.mqtt_world_model.specs.model.Run.{read_if, read_rest, read_first, read_asked}
-use Rattle.mqtt_rules.specs.declared.step.Limits.{Limits}
+use Rattle.mqtt_rules.specs.declared.step.Capacity.{Capacity}
 use Rattle.mqtt_world_laws.specs.acceptance.Spending.{spending}
 use Rattle.mqtt_world_laws.proofs.acceptance_lemmas.copies.Steady.{linking_spends_none}
 use Rattle.mqtt_world_laws.proofs.acceptance_lemmas.publishers.Ends.{all_appended}
@@ -18,7 +18,7 @@ use Rattle.mqtt_world_laws.proofs.delivery_lemmas.order.Growing.{begin_then}
 
 -- ---- its bytes change nothing of the broker and of the ends
 
-abbrev pub with_strangers : (first : List CopyId) (c : List ℕ) (largest : ℕ) (limits : Limits) (w : World) (ss : List Stranger) (s : Stands first c largest limits w) → AllByRecursion (IsOtherStranger s.ns w.broker.given) ss
+abbrev pub with_strangers : (first : List CopyId) (c : List ℕ) (largest : ℕ) (limits : Capacity) (w : World) (ss : List Stranger) (s : Stands first c largest limits w) → AllByRecursion (IsOtherStranger s.ns w.broker.given) ss
     → Stands first c largest limits (record w { strangers = ss })
 with_strangers first c largest limits w ss s a =
     let h = s.standing in
@@ -42,7 +42,7 @@ with_strangers first c largest limits w ss s a =
       };
     }
 
-abbrev pub held_stands : (first : List CopyId) (c : List ℕ) (largest : ℕ) (limits : Limits) (name : List ℕ) (w : World) → Stands first c largest limits w → Stands first c largest limits (next_held name w)
+abbrev pub held_stands : (first : List CopyId) (c : List ℕ) (largest : ℕ) (limits : Capacity) (name : List ℕ) (w : World) → Stands first c largest limits w → Stands first c largest limits (next_held name w)
 held_stands first c largest limits name w s =
     with_strangers first c largest limits w (map (changed name (λ (x : Stranger). record x { held = held_after x.held })) w.strangers) s
     (all_changed (IsOtherStranger s.ns w.broker.given) name (λ (x : Stranger). record x { held = held_after x.held }) w.strangers (λ x q. q) s.standing.around.strangers)
@@ -54,7 +54,7 @@ pub linking_stands : (c : List ℕ) (largest : ℕ) (set : Setting) (ids : List 
 linking_stands c largest set ids ns w h = called_copies c largest set NewLine ids ns w h (linking_spends_none set.limits set.choice w.now w.broker) (λ there. tt)
 
 -- the next line is no one's
-pub next_free : (c : List ℕ) (largest : ℕ) (set : Setting) (ids : List CopyId) (ns : List ℕ) (w : World) → StandsWith c largest set.limits ids ns w → can_link w.broker ≡ true
+pub next_free : (c : List ℕ) (largest : ℕ) (set : Setting) (ids : List CopyId) (ns : List ℕ) (w : World) → StandsWith c largest set.limits ids ns w → can_link set.limits w.broker ≡ true
     → IsAnothers ns (stepped set.limits set.choice w.now NewLine w.broker).given (Some (suc w.broker.given))
 next_free c largest set ids ns w h can = λ n is.
     let it : suc w.broker.given ≡ n = cc in
@@ -65,7 +65,7 @@ next_free c largest set ids ns w h can = λ n is.
 pub comes_stands : (first : List CopyId) (c : List ℕ) (largest : ℕ) (set : Setting) (name bytes : List ℕ) (w : World) → Stands first c largest set.limits w → Stands first c largest set.limits (comes set name bytes w)
 comes_stands first c largest set name bytes w s = by (is_some (stranger_named name w))
   where
-    free : (t : Bool) → can_link w.broker ≡ t → IsAnothers s.ns (stepped set.limits set.choice w.now NewLine w.broker).given (cond t (Some (suc w.broker.given)) None)
+    free : (t : Bool) → can_link set.limits w.broker ≡ t → IsAnothers s.ns (stepped set.limits set.choice w.now NewLine w.broker).given (cond t (Some (suc w.broker.given)) None)
     free false can = λ n is. absurd cc
     free true can = next_free c largest set s.ids s.ns w s.standing can
 
@@ -75,9 +75,9 @@ comes_stands first c largest set name bytes w s = by (is_some (stranger_named na
         (all_changed (IsOtherStranger s.ns w.broker.given) name (λ (x : Stranger). record x { held = x.held ++ bytes }) w.strangers (λ x q. q) s.standing.around.strangers)
     by false =
         let linked = linking_stands c largest set s.ids s.ns w s.standing in
-        let x : Stranger = record { name = name; number = cond (can_link w.broker) (Some (suc w.broker.given)) None; held = bytes } in
+        let x : Stranger = record { name = name; number = cond (can_link set.limits w.broker) (Some (suc w.broker.given)) None; held = bytes } in
         with_strangers first c largest set.limits (calls set NewLine w) (w.strangers ++ x ∷ []) (record { ids = linked.0; grown = begin_then first s.ids linked.0 s.grown linked.2; ns = s.ns; standing = linked.1 })
-        (all_appended (IsOtherStranger s.ns (calls set NewLine w).broker.given) w.strangers x linked.1.around.strangers (free (can_link w.broker) refl))
+        (all_appended (IsOtherStranger s.ns (calls set NewLine w).broker.given) w.strangers x linked.1.around.strangers (free (can_link set.limits w.broker) refl))
 
 -- whoever is there then was there before
 pub comes_there : (c : List ℕ) (set : Setting) (name bytes : List ℕ) (w : World) → is_some (receiver_named c (comes set name bytes w)) ≡ is_some (receiver_named c w)
@@ -95,7 +95,7 @@ or_there true b h = refl
 or_there false b h = h
 
 -- the next of them is a step of others; w is the world in which the bytes came
-pub next_outside : (first : List CopyId) (c : List ℕ) (largest : ℕ) (limits : Limits) (name : List ℕ) (w v : World) (h : Stands first c largest limits v) → is_some (receiver_named c v) ≡ is_some (receiver_named c w)
+pub next_outside : (first : List CopyId) (c : List ℕ) (largest : ℕ) (limits : Capacity) (name : List ℕ) (w v : World) (h : Stands first c largest limits v) → is_some (receiver_named c v) ≡ is_some (receiver_named c w)
     → front_names (first_of (bytes_held (stranger_named name v))) w ≡ false → is_some (receiver_named c v) ≡ true → (x : Call) → call_of_stranger (stranger_named name v) ≡ Some x → IsOutside c h.ns x
 next_outside first c largest limits name w v h there good found =
     packet_outside c (IsOutOf h.ns) (IsOutside c h.ns) (λ n packet free other. (free, other)) (λ n t code free. free) v.broker.given name w v

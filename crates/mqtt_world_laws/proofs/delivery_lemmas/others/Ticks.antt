@@ -17,7 +17,7 @@ use Rattle.mqtt_rules.specs.step.Numbers.{NoneFell}
 use Rattle.mqtt_rules.specs.step.State.{Line as BrokerLine, Broker, MemberChoice}
 use Rattle.mqtt_rules.specs.step.Step.{Tick, at_moment, stepped}
 use Rattle.mqtt_rules.specs.step.Tick.{is_silent}
-use Rattle.mqtt_rules.specs.declared.step.Limits.{Limits}
+use Rattle.mqtt_rules.specs.declared.step.Capacity.{Capacity}
 use Rattle.mqtt_world_laws.specs.acceptance.Spending.{spending}
 use Rattle.mqtt_world_laws.specs.receiver.Calls.{receiver_called}
 use Rattle.mqtt_world_laws.specs.receiver.Own.{IsAwaiting, IsFreeLine, IsInStep}
@@ -70,7 +70,7 @@ off_tick : (x : Option ℕ) → IsOff x Tick
 off_tick None = tt
 off_tick (Some n) = tt
 
-placed_ticked : (largest : ℕ) (ids : List CopyId) (ns : List ℕ) (limits : Limits) (choice : MemberChoice) (now : ℕ) (r : Receiver) (b : Broker) → IsPlaced largest ids ns r b → IsTidy limits b
+placed_ticked : (largest : ℕ) (ids : List CopyId) (ns : List ℕ) (limits : Capacity) (choice : MemberChoice) (now : ℕ) (r : Receiver) (b : Broker) → IsPlaced largest ids ns r b → IsTidy limits b
     → GoesFurther largest ids ns (receiver_called limits choice now Tick r b) (stepped limits choice now Tick b)
 placed_ticked largest ids ns limits choice now r b placed tidy = by (find (λ (x : BrokerLine). is_silent first.now x.session x) first.lines) refl
   where

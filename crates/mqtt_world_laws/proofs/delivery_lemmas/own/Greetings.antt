@@ -29,7 +29,7 @@ use Rattle.mqtt_rules.specs.step.Laws.{AreWithin}
 use Rattle.mqtt_rules.specs.step.Lines.{HasUniqueLines, line_number}
 use Rattle.mqtt_rules.specs.step.Numbers.{HasGivenBirths}
 use Rattle.mqtt_rules.specs.step.State.{Line as BrokerLine, Broker, is_of, line_at, line_of, session_at, session_named}
-use Rattle.mqtt_rules.specs.declared.step.Limits.{Limits}
+use Rattle.mqtt_rules.specs.declared.step.Capacity.{Capacity}
 use Rattle.mqtt_world_laws.specs.acceptance.Fair.{IsSteady}
 use Rattle.mqtt_world_laws.specs.receiver.Calls.{IsBeginning, IsOnlyAt, IsRenewing, IsResuming, IsUnused}
 use Rattle.mqtt_world_laws.specs.receiver.Own.{IsInStep}
@@ -170,7 +170,7 @@ spared_none k r b (lingers birth of is calm there) = absurd cc
 -- ---- what the broker may make of the CONNECT, on whichever line it comes
 
 -- a receiver's first CONNECT may begin a session
-pub may_begin : (limits : Limits) (r : Receiver) (l : BrokerLine) (b : Broker) → AreWithin limits → IsSteady b → HaveSentNothing b → IsNamed r.client → Awaits r.line.number l b → session_named r.client b.records ≡ None
+pub may_begin : (limits : Capacity) (r : Receiver) (l : BrokerLine) (b : Broker) → AreWithin limits → IsSteady b → HaveSentNothing b → IsNamed r.client → Awaits r.line.number l b → session_named r.client b.records ≡ None
     → filter_map answered r.line.old ≡ spared (filter_map answered r.line.old) → IsBeginning limits r l b
 may_begin limits r l b within steady unsent named here none old = record {
   number = here.number;
@@ -188,7 +188,7 @@ may_begin limits r l b within steady unsent named here none old = record {
 }
 
 -- its session has a place, so another may begin instead of it
-pub may_renew : (limits : Limits) (r : Receiver) (l : BrokerLine) (s : Session) (b : Broker) → AreWithin limits → IsSteady b → HasPlace limits r.client b.records → IsNamed r.client → IsResuming r l s b → IsRenewing limits r l s b
+pub may_renew : (limits : Capacity) (r : Receiver) (l : BrokerLine) (s : Session) (b : Broker) → AreWithin limits → IsSteady b → HasPlace limits r.client b.records → IsNamed r.client → IsResuming r l s b → IsRenewing limits r l s b
 may_renew limits r l s b within steady place named a = record {
   resuming = a;
   births = steady.coherent.births;

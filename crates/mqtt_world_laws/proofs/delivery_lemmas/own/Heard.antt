@@ -16,7 +16,7 @@ use Rattle.mqtt_records.specs.declared.state.session.Session.{Session}
 use Rattle.mqtt_records.specs.lists.Distinct.{AllDiffer}
 use Rattle.mqtt_rules.specs.step.State.{Line as BrokerLine, Broker, MemberChoice, session_named}
 use Rattle.mqtt_rules.specs.step.Step.{Call, Input, stepped, told}
-use Rattle.mqtt_rules.specs.declared.step.Limits.{Limits}
+use Rattle.mqtt_rules.specs.declared.step.Capacity.{Capacity}
 use Rattle.mqtt_world_laws.specs.acceptance.Fair.{IsSteady}
 use Rattle.mqtt_world_laws.specs.receiver.Apart.{AreToldApart}
 use Rattle.mqtt_world_laws.specs.receiver.Calls.{receiver_called, turned_back}
@@ -52,7 +52,7 @@ calm_drop (x ∷ xs) h = h.1
 -- ---- a packet was taken off one of its lines, which leaves these there, and this is where its session is and what becomes of its lines
 
 -- a call on its line leaves the receiver placed
-pub placed_with : (largest : ℕ) (ids all : List CopyId) (ns : List ℕ) (limits : Limits) (choice : MemberChoice) (now : ℕ) (call : Call) (o : Option ℕ) (k : ℕ) (up old : List Back) (r : Receiver) (b : Broker) → IsPlaced largest ids ns r b
+pub placed_with : (largest : ℕ) (ids all : List CopyId) (ns : List ℕ) (limits : Capacity) (choice : MemberChoice) (now : ℕ) (call : Call) (o : Option ℕ) (k : ℕ) (up old : List Back) (r : Receiver) (b : Broker) → IsPlaced largest ids ns r b
     → AreToldApart all (stepped limits choice now call b).records → IsHis r.client o k (stepped limits choice now call b)
     → Present o k (told_by (stepped limits choice now call b) (told limits choice now call b) (line_like (record r.line { up = up; old = old }))) (stepped limits choice now call b)
     → Former o k (told_by (stepped limits choice now call b) (told limits choice now call b) (line_like (record r.line { up = up; old = old }))) (stepped limits choice now call b)
@@ -86,7 +86,7 @@ pub record Hears (largest : ℕ) (ids : List CopyId) (ns : List ℕ) (birth k : 
   pub owns : Own r.client birth k b
   pub listens : Listens q line birth b
 
-module _ (largest : ℕ) (ids : List CopyId) (ns : List ℕ) (limits : Limits) (birth : ℕ) (r : Receiver) (b : Broker) (placed : IsPlaced largest ids ns r b) (own : placed.birth ≡ Some birth) (there : connected_at placed.line b.lines ≡ Some (Some birth)) where
+module _ (largest : ℕ) (ids : List CopyId) (ns : List ℕ) (limits : Capacity) (birth : ℕ) (r : Receiver) (b : Broker) (placed : IsPlaced largest ids ns r b) (own : placed.birth ≡ Some birth) (there : connected_at placed.line b.lines ≡ Some (Some birth)) where
   step_here : IsInStep largest ids birth ns r b
   step_here = subst (λ (z : Option ℕ). GoesAlong z largest ids ns r b) own placed.along
 

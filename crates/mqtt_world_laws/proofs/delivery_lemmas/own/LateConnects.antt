@@ -22,7 +22,7 @@ use Rattle.mqtt_rules.specs.step.Deeds.{Deed, after_all, rows_of_all}
 use Rattle.mqtt_rules.specs.step.Laws.{AreWithin}
 use Rattle.mqtt_rules.specs.step.State.{Line as BrokerLine, Broker, MemberChoice, line_of, session_named}
 use Rattle.mqtt_rules.specs.step.Step.{Call, Input, Outcome, at_moment, deeds, told}
-use Rattle.mqtt_rules.specs.declared.step.Limits.{Limits}
+use Rattle.mqtt_rules.specs.declared.step.Capacity.{Capacity}
 use Rattle.mqtt_world_laws.specs.acceptance.Fair.{IsSteady}
 use Rattle.mqtt_world_laws.specs.acceptance.Spending.{spending}
 use Rattle.mqtt_world_laws.proofs.acceptance_lemmas.copies.Steady.{given_grows, order_of}
@@ -48,7 +48,7 @@ use Rattle.mqtt_world_laws.proofs.delivery_lemmas.own.Reading.{first_read_there}
 
 -- ---- the receiver after it
 
-module _ (largest : ℕ) (ids : List CopyId) (ns : List ℕ) (limits : Limits) (choice : MemberChoice) (now : ℕ) (r : Receiver) (l : BrokerLine) (b : Broker) (placed : IsPlaced largest ids ns r b)
+module _ (largest : ℕ) (ids : List CopyId) (ns : List ℕ) (limits : Capacity) (choice : MemberChoice) (now : ℕ) (r : Receiver) (l : BrokerLine) (b : Broker) (placed : IsPlaced largest ids ns r b)
     (within : AreWithin limits) (steady : IsSteady b) (order : IsInOrder (after_answer limits choice now l.number (connect false) r b)) (unused : HaveSentNothing b)
     (here : Awaits r.line.old_number l b) (old : r.line.old ≡ answers (connect false) ∷ []) where
   abbrev call : Call

@@ -11,7 +11,7 @@ use Rattle.mqtt_world_model.specs.model.World.{Setting, World, asks, receiver_na
 use Rattle.mqtt_rules.proofs.step_lemmas.numbers.NumberSteps.{step_fell}
 use Rattle.mqtt_rules.specs.step.State.{Broker, MemberChoice}
 use Rattle.mqtt_rules.specs.step.Step.{Input}
-use Rattle.mqtt_rules.specs.declared.step.Limits.{Limits}
+use Rattle.mqtt_rules.specs.declared.step.Capacity.{Capacity}
 use Rattle.mqtt_world_laws.specs.acceptance.Fair.{IsSteady}
 use Rattle.mqtt_world_laws.specs.acceptance.Spending.{spending}
 use Rattle.mqtt_world_laws.specs.receiver.Calls.{reads_old_answer, turned_back}
@@ -27,7 +27,7 @@ use Rattle.mqtt_world_laws.proofs.delivery_lemmas.own.Replies.{read_owns}
 
 -- ---- the receiver after it
 
-read_placed : (largest : ℕ) (ids : List CopyId) (ns : List ℕ) (limits : Limits) (choice : MemberChoice) (now : ℕ) (x : Answer) (rest : List Back) (r : Receiver) (b : Broker) (placed : IsPlaced largest ids ns r b) → IsSteady b
+read_placed : (largest : ℕ) (ids : List CopyId) (ns : List ℕ) (limits : Capacity) (choice : MemberChoice) (now : ℕ) (x : Answer) (rest : List Back) (r : Receiver) (b : Broker) (placed : IsPlaced largest ids ns r b) → IsSteady b
     → IsJoined placed.birth placed.line r.line.old_number b → AllByRecursion IsNoConnect (map packet_like r.line.old) → HasNoConnect (x ∷ []) → r.line.old ≡ answers x ∷ rest
     → IsPlaced largest ids ns (reads_old_answer limits choice now placed.line x r b) (after_answer limits choice now placed.line x r b)
 read_placed largest ids ns limits choice now x rest r b placed steady j calm none up =

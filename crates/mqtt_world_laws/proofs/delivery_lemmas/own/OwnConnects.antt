@@ -27,7 +27,7 @@ use Rattle.mqtt_rules.specs.step.Deeds.{closing}
 use Rattle.mqtt_rules.specs.step.Laws.{AreWithin}
 use Rattle.mqtt_rules.specs.step.State.{Line as BrokerLine, Broker, MemberChoice, line_of}
 use Rattle.mqtt_rules.specs.step.Step.{Call, Input, Outcome, deeds, stepped, told}
-use Rattle.mqtt_rules.specs.declared.step.Limits.{Limits}
+use Rattle.mqtt_rules.specs.declared.step.Capacity.{Capacity}
 use Rattle.mqtt_world_laws.specs.acceptance.Fair.{IsSteady}
 use Rattle.mqtt_world_laws.specs.acceptance.Spending.{spending}
 use Rattle.mqtt_world_laws.proofs.acceptance_lemmas.copies.Steady.{order_of}
@@ -52,7 +52,7 @@ use Rattle.mqtt_world_laws.proofs.delivery_lemmas.others.Like.{calm_up, connecte
 use Rattle.mqtt_world_laws.proofs.delivery_lemmas.others.Outside.{goes_as, listed}
 use Rattle.mqtt_world_laws.proofs.delivery_lemmas.own.Reading.{first_read}
 
-module _ (largest : ℕ) (ids : List CopyId) (ns : List ℕ) (limits : Limits) (choice : MemberChoice) (now : ℕ) (clean : Bool) (rest : List Back) (r : Receiver) (l : BrokerLine) (b : Broker) (placed : IsPlaced largest ids ns r b)
+module _ (largest : ℕ) (ids : List CopyId) (ns : List ℕ) (limits : Capacity) (choice : MemberChoice) (now : ℕ) (clean : Bool) (rest : List Back) (r : Receiver) (l : BrokerLine) (b : Broker) (placed : IsPlaced largest ids ns r b)
     (number_is : r.line.number ≡ Some l.number) (up : r.line.up ≡ answers (connect clean) ∷ rest) where
   abbrev packet : Packet
   packet = wire_back r.client r.window r.aliases (answers (connect clean))
@@ -98,7 +98,7 @@ module _ (largest : ℕ) (ids : List CopyId) (ns : List ℕ) (limits : Limits) (
 
 -- ---- its session stands: it is resumed, or another begins in its place
 
-module _ (largest : ℕ) (ids : List CopyId) (ns : List ℕ) (limits : Limits) (choice : MemberChoice) (now : ℕ) (rest : List Back) (r : Receiver) (l : BrokerLine) (s : Session) (b : Broker) (placed : IsPlaced largest ids ns r b)
+module _ (largest : ℕ) (ids : List CopyId) (ns : List ℕ) (limits : Capacity) (choice : MemberChoice) (now : ℕ) (rest : List Back) (r : Receiver) (l : BrokerLine) (s : Session) (b : Broker) (placed : IsPlaced largest ids ns r b)
     (a : IsResuming r l s b) (own : Own r.client s.birth placed.line b) (former : Former (Some s.birth) placed.line (line_like r.line) b) where
   -- what the session was taken from is closed
   shut : (cs : List ℕ) → cs ≡ lines_left (line_of s.birth b) → (birth : ℕ) → Some s.birth ≡ Some birth → r.line.old_number ≡ Some placed.line → session_on placed.line b.lines ≡ Some (Some birth) → is_one_of r.line.old_number cs ≡ true
@@ -133,7 +133,7 @@ module _ (largest : ℕ) (ids : List CopyId) (ns : List ℕ) (limits : Limits) (
 
 -- ---- no session of its name stands: one begins, or there is no place for one
 
-module _ (largest : ℕ) (ids : List CopyId) (ns : List ℕ) (limits : Limits) (choice : MemberChoice) (now : ℕ) (clean : Bool) (rest : List Back) (r : Receiver) (l : BrokerLine) (b : Broker) (placed : IsPlaced largest ids ns r b)
+module _ (largest : ℕ) (ids : List CopyId) (ns : List ℕ) (limits : Capacity) (choice : MemberChoice) (now : ℕ) (clean : Bool) (rest : List Back) (r : Receiver) (l : BrokerLine) (b : Broker) (placed : IsPlaced largest ids ns r b)
     (a : IsBeginning limits r l b) (up : r.line.up ≡ answers (connect clean) ∷ rest) (former : Former None placed.line (line_like r.line) b) (k : IsAwaiting largest ids ns r b) where
   begun : nat_lt (length b.records.sessions) limits.sessions ≡ true → IsInOrder (after_answer limits choice now l.number (connect clean) r b)
       → IsPlaced largest ids ns (reads_answer limits choice now l.number (connect clean) r b) (after_answer limits choice now l.number (connect clean) r b)
@@ -166,7 +166,7 @@ module _ (largest : ℕ) (ids : List CopyId) (ns : List ℕ) (limits : Limits) (
 
 -- ---- whatever becomes of it
 
-read_placed : (largest : ℕ) (ids : List CopyId) (ns : List ℕ) (limits : Limits) (choice : MemberChoice) (now : ℕ) (clean : Bool) (rest : List Back) (r : Receiver) (l : BrokerLine) (b : Broker) → IsPlaced largest ids ns r b
+read_placed : (largest : ℕ) (ids : List CopyId) (ns : List ℕ) (limits : Capacity) (choice : MemberChoice) (now : ℕ) (clean : Bool) (rest : List Back) (r : Receiver) (l : BrokerLine) (b : Broker) → IsPlaced largest ids ns r b
     → AreWithin limits → IsSteady b → HasPlace limits r.client b.records → HaveSentNothing b → Awaits r.line.number l b → r.line.up ≡ answers (connect clean) ∷ rest → IsInOrder (after_answer limits choice now l.number (connect clean) r b)
     → IsPlaced largest ids ns (reads_answer limits choice now l.number (connect clean) r b) (after_answer limits choice now l.number (connect clean) r b)
 read_placed largest ids ns limits choice now clean rest r l b placed within steady place unsent here up order = by placed.birth placed.along placed.seat.his placed.seat.former

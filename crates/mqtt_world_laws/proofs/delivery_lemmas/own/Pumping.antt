@@ -11,7 +11,7 @@ use Rattle.mqtt_rules.proofs.step_lemmas.numbers.NumberSteps.{step_fell}
 use Rattle.mqtt_rules.specs.step.Flight.{HasDistinctIdentifiers}
 use Rattle.mqtt_rules.specs.step.State.{Line as BrokerLine, Broker, MemberChoice, line_at}
 use Rattle.mqtt_rules.specs.step.Step.{Pump, stepped}
-use Rattle.mqtt_rules.specs.declared.step.Limits.{Limits}
+use Rattle.mqtt_rules.specs.declared.step.Capacity.{Capacity}
 use Rattle.mqtt_rules.specs.whole.Whole.{AreNoLarger, FitsWhole}
 use Rattle.mqtt_world_laws.specs.acceptance.Fair.{IsSteady}
 use Rattle.mqtt_world_laws.specs.acceptance.Spending.{spending}
@@ -26,12 +26,12 @@ use Rattle.mqtt_world_laws.proofs.delivery_lemmas.others.Like.{seat_of_others}
 use Rattle.mqtt_world_laws.proofs.delivery_lemmas.others.Outside.{GoesFurther, calls_with, placed_on}
 use Rattle.mqtt_world_laws.proofs.delivery_lemmas.order.Growing.{begin_then}
 
-idle_sent : (o : Option ℕ) (largest : ℕ) (ids : List CopyId) (ns : List ℕ) (limits : Limits) (choice : MemberChoice) (now n : ℕ) (r : Receiver) (b : Broker) → GoesAlong o largest ids ns r b → IsIdle n b
+idle_sent : (o : Option ℕ) (largest : ℕ) (ids : List CopyId) (ns : List ℕ) (limits : Capacity) (choice : MemberChoice) (now n : ℕ) (r : Receiver) (b : Broker) → GoesAlong o largest ids ns r b → IsIdle n b
     → GoesAlong o largest ids ns (receiver_called limits choice now (Pump n) r b) (stepped limits choice now (Pump n) b)
 idle_sent None largest ids ns limits choice now n r b along idle = idle_pump_awaiting largest ids ns limits choice now n r b along idle
 idle_sent (Some birth) largest ids ns limits choice now n r b along idle = idle_pump_in_step largest ids birth ns limits choice now n r b along idle
 
-sent_along : (o : Option ℕ) (largest : ℕ) (ids : List CopyId) (ns : List ℕ) (limits : Limits) (choice : MemberChoice) (now n k : ℕ) (r : Receiver) (b : Broker) → GoesAlong o largest ids ns r b → IsSteady b → HasDistinctIdentifiers b.records
+sent_along : (o : Option ℕ) (largest : ℕ) (ids : List CopyId) (ns : List ℕ) (limits : Capacity) (choice : MemberChoice) (now n k : ℕ) (r : Receiver) (b : Broker) → GoesAlong o largest ids ns r b → IsSteady b → HasDistinctIdentifiers b.records
     → r.line.number ≡ Some n → ((l : BrokerLine) (birth : ℕ) → line_at n b ≡ Some l → l.session ≡ Some birth → (l.largest ≡ largest) × QueueFits largest birth b) → ((m : ℕ) → r.line.number ≡ Some m → r.line.old_number ≡ Some m → ⊥) → Present o k (line_like r.line) b
     → GoesAlong o largest ids ns (receiver_called limits choice now (Pump n) r b) (stepped limits choice now (Pump n) b)
 sent_along o largest ids ns limits choice now n k r b along steady distinct is fits apart (absent none up) = let clash : None ≡ Some n = sym none ∙ is in absurd cc
@@ -57,7 +57,7 @@ off_pump : (x : Option ℕ) (n : ℕ) → IsOff x (Pump n)
 off_pump None n = tt
 off_pump (Some m) n = tt
 
-sent_placed : (largest : ℕ) (ids : List CopyId) (ns : List ℕ) (limits : Limits) (choice : MemberChoice) (now n : ℕ) (r : Receiver) (b : Broker) → IsPlaced largest ids ns r b → IsSteady b → HasDistinctIdentifiers b.records
+sent_placed : (largest : ℕ) (ids : List CopyId) (ns : List ℕ) (limits : Capacity) (choice : MemberChoice) (now n : ℕ) (r : Receiver) (b : Broker) → IsPlaced largest ids ns r b → IsSteady b → HasDistinctIdentifiers b.records
     → r.line.number ≡ Some n → ((l : BrokerLine) (birth : ℕ) → line_at n b ≡ Some l → l.session ≡ Some birth → (l.largest ≡ largest) × QueueFits largest birth b)
     → GoesFurther largest ids ns (receiver_called limits choice now (Pump n) r b) (stepped limits choice now (Pump n) b)
 sent_placed largest ids ns limits choice now n r b placed steady distinct is fits =

@@ -26,7 +26,7 @@ use Rattle.mqtt_rules.specs.step.Inbound.{on_answer}
 use Rattle.mqtt_rules.specs.step.Outbound.{of_entry, turn_deeds}
 use Rattle.mqtt_rules.specs.step.State.{Line as BrokerLine, Broker, Env, MemberChoice, queue_on, session_at}
 use Rattle.mqtt_rules.specs.step.Step.{Input, at_moment, deeds, env_of, next_packet, stepped}
-use Rattle.mqtt_rules.specs.declared.step.Limits.{Limits}
+use Rattle.mqtt_rules.specs.declared.step.Capacity.{Capacity}
 use Rattle.mqtt_world_laws.specs.acceptance.Fair.{IsSteady}
 use Rattle.mqtt_world_laws.specs.acceptance.Spending.{spending}
 use Rattle.mqtt_world_laws.specs.receiver.Handing.{IsListening, after_answer, reads_answer}
@@ -61,7 +61,7 @@ module _ (client : List ℕ) (birth n : ℕ) where
   mine_answer env (Err fault) r l s b c a at = subst (AreMine client birth n) (sym (drop_is env protocol_error l s c at a.connected a.no_will a.no_end)) (inr tt, (inr tt, (inr tt, tt)))
 
   -- whatever packet it is whose deeds keep them so
-  pub packet_owns : (limits : Limits) (choice : MemberChoice) (now : ℕ) (packet : Packet) (r : Receiver) (l : BrokerLine) (s : Session) (b : Broker) → IsListening r l s b
+  pub packet_owns : (limits : Capacity) (choice : MemberChoice) (now : ℕ) (packet : Packet) (r : Receiver) (l : BrokerLine) (s : Session) (b : Broker) → IsListening r l s b
       → AreMine client birth n (next_packet (env_of limits choice b) l packet s (heard_of now l.number b)) → Own client birth n b → Own client birth n (stepped limits choice now (Input l.number packet) b)
   packet_owns limits choice now packet r l s b a mine own =
       let first = at_moment now b in
@@ -72,7 +72,7 @@ module _ (client : List ℕ) (birth n : ℕ) where
       own_done client birth n (rows_of_all ds first.records) (after_all ds first) (mine_owns client birth n ds first all o)
 
   -- an answer leaves session and line the receiver's own
-  pub answer_owns : (limits : Limits) (choice : MemberChoice) (now : ℕ) (packet : Packet) (x : rules.Answer) (r : Receiver) (l : BrokerLine) (s : Session) (b : Broker) → IsListening r l s b
+  pub answer_owns : (limits : Capacity) (choice : MemberChoice) (now : ℕ) (packet : Packet) (x : rules.Answer) (r : Receiver) (l : BrokerLine) (s : Session) (b : Broker) → IsListening r l s b
       → next_packet (env_of limits choice b) l packet s (heard_of now l.number b) ≡ on_answer x (env_of limits choice b) l s (heard_of now l.number b)
       → Own client birth n b → Own client birth n (stepped limits choice now (Input l.number packet) b)
   answer_owns limits choice now packet x r l s b a e own =
@@ -81,14 +81,14 @@ module _ (client : List ℕ) (birth n : ℕ) where
 -- ---- where it is after it
 
 -- whichever of its lines the receiver has as its own, session and line stay its own
-pub read_owns : (limits : Limits) (choice : MemberChoice) (now : ℕ) (x : Answer) (r : Receiver) (l : BrokerLine) (s : Session) (b : Broker) (birth n : ℕ) → IsListening r l s b → HasNoConnect (x ∷ [])
+pub read_owns : (limits : Capacity) (choice : MemberChoice) (now : ℕ) (x : Answer) (r : Receiver) (l : BrokerLine) (s : Session) (b : Broker) (birth n : ℕ) → IsListening r l s b → HasNoConnect (x ∷ [])
     → Own r.client birth n b → Own r.client birth n (after_answer limits choice now l.number x r b)
 read_owns limits choice now x r l s b birth n a none own =
     answer_owns r.client birth n limits choice now (wire_back r.client r.window r.aliases (answers x)) (reply_to x (queue_on l.went s)) r l s b a
     (answered_by x r.client r.window r.aliases (env_of limits choice b) l s (heard_of now l.number b) none) own
 
 -- and it has its place
-read_placed : (largest : ℕ) (ids : List CopyId) (ns : List ℕ) (limits : Limits) (choice : MemberChoice) (now : ℕ) (x : Answer) (rest : List Back) (r : Receiver) (b : Broker) (placed : IsPlaced largest ids ns r b) → IsSteady b
+read_placed : (largest : ℕ) (ids : List CopyId) (ns : List ℕ) (limits : Capacity) (choice : MemberChoice) (now : ℕ) (x : Answer) (rest : List Back) (r : Receiver) (b : Broker) (placed : IsPlaced largest ids ns r b) → IsSteady b
     → IsJoined placed.birth placed.line r.line.number b → HasNoConnect (x ∷ []) → r.line.up ≡ answers x ∷ rest
     → IsPlaced largest ids ns (reads_answer limits choice now placed.line x r b) (after_answer limits choice now placed.line x r b)
 read_placed largest ids ns limits choice now x rest r b placed steady j none up =

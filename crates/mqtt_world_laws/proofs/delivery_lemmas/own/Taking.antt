@@ -22,7 +22,7 @@ use Rattle.mqtt_rules.specs.step.Piece.{Front, begins_connect, call_by, code_of}
 use Rattle.mqtt_rules.specs.step.State.{Line as BrokerLine, Broker, line_at}
 use Rattle.mqtt_rules.specs.step.Step.{BadInput, Call, Input, Lost, NewLine, Pump, Tick, at_moment, can_link, opened, stepped, told}
 use Rattle.mqtt_rules.proofs.step_lemmas.contents.PassedContents.{two}
-use Rattle.mqtt_rules.specs.declared.step.Limits.{Limits}
+use Rattle.mqtt_rules.specs.declared.step.Capacity.{Capacity}
 use Rattle.mqtt_world_model.specs.model.Ends.{Back, Publisher, Receiver, answers, asks_for, hears, new_receiver, reads_publish, receiver_connack, receiver_reads, wire_back}
 use Rattle.mqtt_world_model.specs.model.Lines.{Down, gives_up, is_one_of, joined, left}
 use Rattle.mqtt_world_model.specs.model.Run.{Turn, setting, turned}
@@ -361,13 +361,13 @@ below_take : (window n : ℕ) (ls : List BrokerLine) → IsBelow line_number n l
 below_take window n [] low = tt
 below_take window n (l ∷ ls) low = ((λ e k on. let less = low.0 in absurd (omega (arith, e, less))), below_take window n ls low.1)
 
-fresh_takes : (window : ℕ) (set : Setting) (now : ℕ) (b : Broker) → IsBelow line_number (suc b.given) b.lines → can_link b ≡ true → LineTakes window (Some (suc b.given)) (stepped set.limits set.choice now NewLine b)
+fresh_takes : (window : ℕ) (set : Setting) (now : ℕ) (b : Broker) → IsBelow line_number (suc b.given) b.lines → can_link set.limits b ≡ true → LineTakes window (Some (suc b.given)) (stepped set.limits set.choice now NewLine b)
 fresh_takes window set now b low can =
     subst (λ (d : Broker). LineTakes window (Some (suc b.given)) d) (sym (new_is set.limits set.choice now b can))
     (each_append (TakesThere window (suc b.given)) b.lines (fresh_line (suc b.given) (at_moment now b).now ∷ []) (below_take window (suc b.given) b.lines low) ((λ e k on. absurd cc), tt))
 
 joined_takes : (first : List CopyId) (c d : List ℕ) (clean : Bool) (largest : ℕ) (set : Setting) (w : World) → Stands first c largest set.limits w → ItsLineTakes c w → ItsLineTakes c (happens set (connect_end d clean) w)
-joined_takes first c d clean largest set w s h = by (can_link w.broker) refl
+joined_takes first c d clean largest set w s h = by (can_link set.limits w.broker) refl
   where
     next : ℕ
     next = suc w.broker.given
@@ -378,7 +378,7 @@ joined_takes first c d clean largest set w s h = by (can_link w.broker) refl
     joins : Receiver → Receiver
     joins r = on_back (λ l. joined (answers (connect clean)) next clean l) r
 
-    its : (t : Bool) (r : Receiver) → can_link w.broker ≡ true → ReceiverTakes r new → ReceiverTakes (cond t (joins r) r) new
+    its : (t : Bool) (r : Receiver) → can_link set.limits w.broker ≡ true → ReceiverTakes r new → ReceiverTakes (cond t (joins r) r) new
     its true r can k = record { window = k.window; line = fresh_takes r.window set w.now w.broker s.standing.around.steady.lines.given can }
     its false r can k = k
 
@@ -386,7 +386,7 @@ joined_takes first c d clean largest set w s h = by (can_link w.broker) refl
     name true r = refl
     name false r = refl
 
-    by : (t : Bool) → can_link w.broker ≡ t → ItsLineTakes c (links set (cond t (Some (suc w.broker.given)) None) d clean w)
+    by : (t : Bool) → can_link set.limits w.broker ≡ t → ItsLineTakes c (links set (cond t (Some (suc w.broker.given)) None) d clean w)
     by false can = h
     by true can =
         mapped_takes c (λ r. cond (bytes_eq r.client d) (joins r) r) (calls set NewLine w).receivers new new (λ r. name (bytes_eq r.client d) r) (λ r k. its (bytes_eq r.client d) r can k)
@@ -441,7 +441,7 @@ happens_takes first (stop_before a) c largest set w s h good = restarts_take c s
 happens_takes first (stop_after a) c largest set w s h good = restarts_take c set (first_step set a w) (first_takes first a c largest set w s h)
 
 -- a turn leaves its line taking packets of any size
-pub turn_takes : (first : List CopyId) (c : List ℕ) (largest : ℕ) (limits : Limits) (t : Turn) (w : World) → Stands first c largest limits w → ItsLineTakes c w → ItsLineTakes c (turned limits t w)
+pub turn_takes : (first : List CopyId) (c : List ℕ) (largest : ℕ) (limits : Capacity) (t : Turn) (w : World) → Stands first c largest limits w → ItsLineTakes c w → ItsLineTakes c (turned limits t w)
 turn_takes first c largest limits t w s h = by (is_bad t.event w) refl
   where
     by : (bad : Bool) → is_bad t.event w ≡ bad → ItsLineTakes c (cond bad w (happens (setting limits t) t.event w))

@@ -31,7 +31,7 @@ use Rattle.mqtt_rules.specs.step.Routing.{CopyTo, deliver, is_queued}
 use Rattle.mqtt_rules.specs.step.State.{Line as BrokerLine, Broker, Env, MemberChoice, line_at, session_at}
 use Rattle.mqtt_rules.specs.step.Step.{Input, env_of, stepped}
 use Rattle.mqtt_rules.specs.step.Subscribe as sub
-use Rattle.mqtt_rules.specs.declared.step.Limits.{Limits}
+use Rattle.mqtt_rules.specs.declared.step.Capacity.{Capacity}
 use Rattle.mqtt_packet.specs.declared.subscribe.subscribe.Subscribe.{Subscribe as Asking}
 use Rattle.mqtt_world_laws.specs.acceptance.Fair.{IsSteady}
 use Rattle.mqtt_world_laws.specs.acceptance.Spending.{spending}
@@ -106,7 +106,7 @@ module _ (client : List ℕ) (birth n : ℕ) where
   mine_subscribe true env line s p b = mine_offer (line_at line b) (suback p.identifier (map (λ (x : Asked). identifier_in_use) p.subscriptions))
   mine_subscribe false env line s p b = mine_answers _ line p.identifier b (mine_filters env s.birth _ p.subscriptions b)
 
-  wish_owns : (limits : Limits) (choice : MemberChoice) (now window aliases : ℕ) (name : List ℕ) (w : Wish) (r : Receiver) (l : BrokerLine) (s : Session) (b : Broker) → IsListening r l s b
+  wish_owns : (limits : Capacity) (choice : MemberChoice) (now window aliases : ℕ) (name : List ℕ) (w : Wish) (r : Receiver) (l : BrokerLine) (s : Session) (b : Broker) → IsListening r l s b
       → Own client birth n b → Own client birth n (stepped limits choice now (Input l.number (wire_back name window aliases (asks_for w))) b)
   wish_owns limits choice now window aliases name w r l s b a own =
       packet_owns client birth n limits choice now (wire_back name window aliases (asks_for w)) r l s b a (mine_subscribe (is_among 1 s.inbound) (env_of limits choice b) l.number s _ (heard_of now l.number b)) own
@@ -121,7 +121,7 @@ retained_apart b steady once = record {
 
 -- ---- where it is after it: on its line
 
-wish_placed : (largest : ℕ) (ids : List CopyId) (ns : List ℕ) (limits : Limits) (choice : MemberChoice) (now : ℕ) (w : Wish) (rest : List Back) (r : Receiver) (b : Broker) (placed : IsPlaced largest ids ns r b) → IsSteady b → IsTidy limits b
+wish_placed : (largest : ℕ) (ids : List CopyId) (ns : List ℕ) (limits : Capacity) (choice : MemberChoice) (now : ℕ) (w : Wish) (rest : List Back) (r : Receiver) (b : Broker) (placed : IsPlaced largest ids ns r b) → IsSteady b → IsTidy limits b
     → AreRetainedOnce b.records → IsJoined placed.birth placed.line r.line.number b → r.line.up ≡ asks_for w ∷ rest
     → GoesFurther largest ids ns (receiver_after limits choice now (asking w r placed.line) r b) (stepped limits choice now (asking w r placed.line) b)
 wish_placed largest ids ns limits choice now w rest r b placed steady tidy once j up =
@@ -138,7 +138,7 @@ wish_placed largest ids ns limits choice now w rest r b placed steady tidy once 
 
 -- ---- on the line that it gave up
 
-old_wish_placed : (largest : ℕ) (ids : List CopyId) (ns : List ℕ) (limits : Limits) (choice : MemberChoice) (now : ℕ) (w : Wish) (rest : List Back) (r : Receiver) (b : Broker) (placed : IsPlaced largest ids ns r b) → IsSteady b → IsTidy limits b
+old_wish_placed : (largest : ℕ) (ids : List CopyId) (ns : List ℕ) (limits : Capacity) (choice : MemberChoice) (now : ℕ) (w : Wish) (rest : List Back) (r : Receiver) (b : Broker) (placed : IsPlaced largest ids ns r b) → IsSteady b → IsTidy limits b
     → AreRetainedOnce b.records → IsJoined placed.birth placed.line r.line.old_number b → AllByRecursion IsNoConnect (map packet_like r.line.old) → r.line.old ≡ asks_for w ∷ rest
     → GoesFurther largest ids ns (reads_old_wish limits choice now placed.line w r b) (stepped limits choice now (asking w r placed.line) b)
 old_wish_placed largest ids ns limits choice now w rest r b placed steady tidy once j calm old =

@@ -35,7 +35,7 @@ use Rattle.mqtt_rules.specs.step.Inbound.{on_answer}
 use Rattle.mqtt_rules.specs.step.Outbound.{of_entry, turn_deeds}
 use Rattle.mqtt_rules.specs.step.State.{Line as BrokerLine, Broker, Env, MemberChoice, entry_on, queue_on, session_at}
 use Rattle.mqtt_rules.specs.step.Step.{Input, deeds, env_of, next_packet}
-use Rattle.mqtt_rules.specs.declared.step.Limits.{Limits}
+use Rattle.mqtt_rules.specs.declared.step.Capacity.{Capacity}
 use Rattle.mqtt_world_laws.proofs.acceptance_lemmas.copies.Counting.{count_append}
 use Rattle.mqtt_world_laws.specs.receiver.Handing.{IsListening, IsRun}
 use Rattle.mqtt_world_laws.specs.receiver.Seen.{Numbering, content_of, handed_in, lot_on, number_of, still_standing}
@@ -181,7 +181,7 @@ answer_is (pubrec i code) env l s c client window aliases none = refl
 answer_is (pubcomp i code) env l s c client window aliases none = refl
 
 -- q has the line that it was read of as its own, or it is the receiver
-module _ (number : Numbering) (largest : ℕ) (copies : List Lot) (limits : Limits) (choice : MemberChoice) (now : ℕ) (a : Answer) (r q : Receiver) (l : BrokerLine) (s : Session) (b : Broker) (h : IsRun number largest copies r b)
+module _ (number : Numbering) (largest : ℕ) (copies : List Lot) (limits : Capacity) (choice : MemberChoice) (now : ℕ) (a : Answer) (r q : Receiver) (l : BrokerLine) (s : Session) (b : Broker) (h : IsRun number largest copies r b)
     (on : IsListening q l s b) (stand : still_standing copies ≡ map (lot_on l.went) s.queue) (none : HasNoConnect (a ∷ []))
     (reads : (place n : ℕ) (e : FlowEntry) (m : TopicAndPayload) → reply_to a (queue_of copies) ≡ Ok (Some (turns.Leave place Taken)) → slice_get copies n ≡ Some (standing e m) → e.place ≡ place
     → Got e.copy.qos n (map (handed_in number) r.once) (map (handed_in number) r.ledger)) where

@@ -38,7 +38,7 @@ use Rattle.mqtt_rules.specs.step.Laws.{IsAmong}
 use Rattle.mqtt_rules.specs.step.Outbound.{of_entry, turn_deeds}
 use Rattle.mqtt_rules.specs.step.State.{Broker, Env, Line, MemberChoice, line_at, session_at, session_named}
 use Rattle.mqtt_rules.specs.step.Step.{BadInput, Call, Input, Lost, NewLine, Pump, Tick, at_moment, deeds, deeds_of, env_of, first_packet, next_packet, on_packet, opening, unopened}
-use Rattle.mqtt_rules.specs.declared.step.Limits.{Limits}
+use Rattle.mqtt_rules.specs.declared.step.Capacity.{Capacity}
 use Rattle.mqtt_world_laws.specs.acceptance.Spending.{spending}
 use Rattle.mqtt_world_laws.proofs.acceptance_lemmas.publishers.Ends.{named_receiver, either}
 use Rattle.mqtt_world_laws.specs.delivery.Standing.{GoesAlong, IsPlaced, IsSeen, Stands}
@@ -149,7 +149,7 @@ module _ (c : List ℕ) where
   IsFree (Input n packet) b = IsOthersLine n b ⊎ IsNoAnswer packet
   IsFree call b = ⊤
 
-  call_none : (limits : Limits) (choice : MemberChoice) (now : ℕ) (call : Call) (b : Broker) → IsFree call b → AreNone (deeds limits choice now call b)
+  call_none : (limits : Capacity) (choice : MemberChoice) (now : ℕ) (call : Call) (b : Broker) → IsFree call b → AreNone (deeds limits choice now call b)
   call_none limits choice now (Input n packet) b h = elim h [
     | inl apart ↦ input_others (env_of limits choice b) n packet (at_moment now b) (λ l birth s at on there. apart l birth s at on there)
     | inr none ↦ none_untaken (deeds limits choice now (Input n packet) b) (untaken_deeds limits choice now (Input n packet) b none)

@@ -11,7 +11,7 @@ use Rattle.mqtt_world_model.specs.model.Laws.{WasTaken, copies_in, count_of, han
 use Rattle.mqtt_world_model.specs.model.Run.{End, Turn, are_beginnings_clean, begins_clean, deeds_at, deeds_over, ended_in, read_at, run, setting, turned}
 use Rattle.mqtt_world_model.specs.model.World.{World, receiver_named}
 use Rattle.mqtt_rules.proofs.step_lemmas.numbers.Copies.{each_more}
-use Rattle.mqtt_rules.specs.declared.step.Limits.{Limits}
+use Rattle.mqtt_rules.specs.declared.step.Capacity.{Capacity}
 use Rattle.mqtt_world_laws.specs.acceptance.Fair.{IsFair}
 use Rattle.mqtt_world_laws.specs.acceptance.Spending.{run_spends, spending}
 use Rattle.mqtt_world_laws.proofs.acceptance_lemmas.copies.Counting.{count_append}
@@ -42,7 +42,7 @@ got_later c p r xs g most h = each_more (IsGot c p) (IsGot c r) (λ x got its ta
 
 -- ---- over the events
 
-run_got : (c : List ℕ) (limits : Limits) (ys : List Turn) (v : World) (q r : Receiver) → IsKept [] c limits v → receiver_named c v ≡ Some q → receiver_named c (run limits ys v) ≡ Some r → run_spends limits ys v ≡ false → are_beginnings_clean limits ys v ≡ true
+run_got : (c : List ℕ) (limits : Capacity) (ys : List Turn) (v : World) (q r : Receiver) → IsKept [] c limits v → receiver_named c v ≡ Some q → receiver_named c (run limits ys v) ≡ Some r → run_spends limits ys v ≡ false → are_beginnings_clean limits ys v ≡ true
     → ((copy : CopyId) → handed_count copy r ≤ 1) → AreGot c r (deeds_over limits ys v)
 run_got c limits [] v q r k e f unspent carried most = tt
 run_got c limits (t ∷ ts) v q r k e f unspent carried most =
@@ -56,7 +56,7 @@ run_got c limits (t ∷ ts) v q r k e f unspent carried most =
     ends_append (IsGot c r) ds (deeds_over limits ts u) (got_later c q r (filter_map ended_in ds) (run_keeps_ledger limits (t ∷ ts) v c q r e f) most first) rest
 
 -- each copy that ends as taken in the rest of a fair run was handed over
-pub run_takes : (limits : Limits) (xs ys : List Turn) (w : World) → IsUntouched limits w → IsFair limits (xs ++ ys) w → (c : List ℕ) (q : Receiver) → receiver_named c (run limits xs w) ≡ Some q → (r : Receiver) → receiver_named c (run limits (xs ++ ys) w) ≡ Some r
+pub run_takes : (limits : Capacity) (xs ys : List Turn) (w : World) → IsUntouched limits w → IsFair limits (xs ++ ys) w → (c : List ℕ) (q : Receiver) → receiver_named c (run limits xs w) ≡ Some q → (r : Receiver) → receiver_named c (run limits (xs ++ ys) w) ≡ Some r
     → All (WasHanded c r) (filter_map ended_in (deeds_over limits ys (run limits xs w)))
 run_takes limits xs ys w u fair c q e r f =
     let costs = spent_append limits xs ys w fair.unspent in

@@ -58,7 +58,7 @@ use Rattle.mqtt_rules.specs.step.State.{Broker, Env, Line, MemberChoice, line_at
 use Rattle.mqtt_rules.specs.step.Step.{Call, NewLine, Input, BadInput, Lost, Pump, Tick, at_moment, can_link, connected_in, deeds, deeds_of, env_of, first_packet, late_code, next_packet, on_fault, on_packet, on_pump, opening, settles, settles_all, shuts, shuts_all}
 use Rattle.mqtt_rules.specs.step.Subscribe as sub
 use Rattle.mqtt_rules.specs.step.Tick.{due, first_due, has_lapsed, is_silent, is_stale, lapse_deeds, lapses, on_tick, silence}
-use Rattle.mqtt_rules.specs.declared.step.Limits.{Limits}
+use Rattle.mqtt_rules.specs.declared.step.Capacity.{Capacity}
 use Rattle.mqtt_rules.proofs.step_lemmas.numbers.Copies.{each_append, each_flat, each_more}
 
 -- ---- of one deed
@@ -516,7 +516,7 @@ module _ (env : Env) where
   at_fault l false code (Some birth) b = dropping (late_code code) l b
 
   plain_call : (call : Call) → IsPlainCall call → Plainly (deeds_of env call)
-  plain_call NewLine h b = plain_cond (can_link b) (Link (suc b.given) ∷ []) [] (tt, tt) tt
+  plain_call NewLine h b = plain_cond (can_link env.limits b) (Link (suc b.given) ∷ []) [] (tt, tt) tt
   plain_call (Input n packet) h b =
       on_line (line_at n b) (λ l. series (always (On n Hear ∷ []) ∷ on_packet env l packet l.session ∷ []))
       (λ l. plain_series (always (On n Hear ∷ []) ∷ on_packet env l packet l.session ∷ []) ((λ a. (tt, tt)), (reading l packet l.session h, tt))) b
@@ -737,11 +737,11 @@ silent_of env (Input n packet) b h = silent_input env n packet b
 silent_of env call b h = all_silent (deeds_of env call b) (plain_call env call tt b)
 
 -- nor do its deeds
-pub untaken_deeds : (limits : Limits) (choice : MemberChoice) (now : ℕ) (call : Call) (b : Broker) → TakesNone call → AllByRecursion IsUntaken (deeds limits choice now call b)
+pub untaken_deeds : (limits : Capacity) (choice : MemberChoice) (now : ℕ) (call : Call) (b : Broker) → TakesNone call → AllByRecursion IsUntaken (deeds limits choice now call b)
 untaken_deeds limits choice now call b h = untaken_of (env_of limits choice b) call (at_moment now b) h
 
 -- a call that sends nothing is silent
-pub silent_deeds : (limits : Limits) (choice : MemberChoice) (now : ℕ) (call : Call) (b : Broker) → SendsNone call → AllByRecursion IsSilent (deeds limits choice now call b)
+pub silent_deeds : (limits : Capacity) (choice : MemberChoice) (now : ℕ) (call : Call) (b : Broker) → SendsNone call → AllByRecursion IsSilent (deeds limits choice now call b)
 silent_deeds limits choice now call b h = silent_of (env_of limits choice b) call (at_moment now b) h
 
 -- an opening sends no copy of QoS 1 or 2

@@ -12,7 +12,7 @@ use Rattle.mqtt_world_model.specs.model.World.{World, old_to_broker, receiver_na
 use Rattle.mqtt_rules.proofs.step_lemmas.flight.FlightRows.{all_more}
 use Rattle.mqtt_rules.specs.step.Laws.{AreWithin}
 use Rattle.mqtt_rules.specs.step.State.{MemberChoice, session_named}
-use Rattle.mqtt_rules.specs.declared.step.Limits.{Limits}
+use Rattle.mqtt_rules.specs.declared.step.Capacity.{Capacity}
 use Rattle.mqtt_rules.specs.step.Step.{is_opening_spent}
 use Rattle.mqtt_world_laws.specs.acceptance.Fair.{IsFair, opened_world}
 use Rattle.mqtt_world_laws.specs.acceptance.Spending.{run_spends, spending}
@@ -45,7 +45,7 @@ use Rattle.mqtt_world_laws.proofs.delivery_lemmas.broker.Untouched.{opened_untou
 -- ---- the run
 
 -- an untouched world keeps what is asked of a receiver
-pub untouched_kept : (c : List ℕ) (limits : Limits) (w : World) → AreWithin limits → IsUntouched limits w → IsKept [] c limits w
+pub untouched_kept : (c : List ℕ) (limits : Capacity) (w : World) → AreWithin limits → IsUntouched limits w → IsKept [] c limits w
 untouched_kept c limits w within u = record {
   stands = new_stands c any_size limits w within u.tidy u.new;
   fit = record {
@@ -58,11 +58,11 @@ untouched_kept c limits w within u = record {
 }
 
 -- so does every fair run
-pub fair_run_kept : (limits : Limits) (ts : List Turn) (w : World) → IsUntouched limits w → IsFair limits ts w → (c : List ℕ) → IsKept [] c limits (run limits ts w)
+pub fair_run_kept : (limits : Capacity) (ts : List Turn) (w : World) → IsUntouched limits w → IsFair limits ts w → (c : List ℕ) → IsKept [] c limits (run limits ts w)
 fair_run_kept limits ts w u fair c = run_kept [] c limits ts w (untouched_kept c limits w fair.within u) fair.unspent fair.clean
 
 -- what it has stored may be opened under whatever limits
-pub run_opens_under : (limits others : Limits) (ts : List Turn) (choice : MemberChoice) (now : ℕ) (w : World) → IsUntouched limits w → IsFair limits ts w → AreWithin others → is_opening_spent others choice now (run limits ts w).broker.records ≡ false
+pub run_opens_under : (limits others : Capacity) (ts : List Turn) (choice : MemberChoice) (now : ℕ) (w : World) → IsUntouched limits w → IsFair limits ts w → AreWithin others → is_opening_spent others choice now (run limits ts w).broker.records ≡ false
     → IsUntouched others (opened_world others choice now (run limits ts w).broker.records)
 run_opens_under limits others ts choice now w u fair within unspent =
     let k = fair_run_kept limits ts w u fair [] in
@@ -70,25 +70,25 @@ run_opens_under limits others ts choice now w u fair within unspent =
     opened_untouched others choice now (run limits ts w).broker.records within (record { coherent = a.steady.coherent; unspent = unspent }) k.fit.distinct k.fit.once k.fit.well.sends.contents.stored k.fit.well.sends.phases
 
 -- and so under its own
-pub run_opens_again : (limits : Limits) (ts : List Turn) (choice : MemberChoice) (now : ℕ) (w : World) → IsUntouched limits w → IsFair limits ts w → is_opening_spent limits choice now (run limits ts w).broker.records ≡ false
+pub run_opens_again : (limits : Capacity) (ts : List Turn) (choice : MemberChoice) (now : ℕ) (w : World) → IsUntouched limits w → IsFair limits ts w → is_opening_spent limits choice now (run limits ts w).broker.records ≡ false
     → IsUntouched limits (opened_world limits choice now (run limits ts w).broker.records)
 run_opens_again limits ts choice now w u fair unspent = run_opens_under limits limits ts choice now w u fair fair.within unspent
 
 -- in every fair run a receiver was handed its copies once and in order
-pub run_hands : (limits : Limits) (ts : List Turn) (w : World) → IsUntouched limits w → IsFair limits ts w → (c : List ℕ) (r : Receiver) → receiver_named c (run limits ts w) ≡ Some r → WasHandedOver r (run limits ts w).broker
+pub run_hands : (limits : Capacity) (ts : List Turn) (w : World) → IsUntouched limits w → IsFair limits ts w → (c : List ℕ) (r : Receiver) → receiver_named c (run limits ts w) ≡ Some r → WasHandedOver r (run limits ts w).broker
 run_hands limits ts w u fair c r e = handed_over [] c any_size limits r (run limits ts w) (fair_run_kept limits ts w u fair c).stands e
 
 -- each copy once
-pub run_hands_once : (limits : Limits) (ts : List Turn) (w : World) → IsUntouched limits w → IsFair limits ts w → (c : List ℕ) (r : Receiver) → receiver_named c (run limits ts w) ≡ Some r → (copy : CopyId) → handed_count copy r ≤ 1
+pub run_hands_once : (limits : Capacity) (ts : List Turn) (w : World) → IsUntouched limits w → IsFair limits ts w → (c : List ℕ) (r : Receiver) → receiver_named c (run limits ts w) ≡ Some r → (copy : CopyId) → handed_count copy r ≤ 1
 run_hands_once limits ts w u fair c r e = (run_hands limits ts w u fair c r e).once
 
 -- a copy that is released was handed over exactly once
-pub run_hands_released : (limits : Limits) (ts : List Turn) (w : World) → IsUntouched limits w → IsFair limits ts w → (c : List ℕ) (r : Receiver) → receiver_named c (run limits ts w) ≡ Some r
+pub run_hands_released : (limits : Capacity) (ts : List Turn) (w : World) → IsUntouched limits w → IsFair limits ts w → (c : List ℕ) (r : Receiver) → receiver_named c (run limits ts w) ≡ Some r
     → All (λ (copy : CopyId). handed_count copy r ≡ 1) (released_in (session_named r.client (run limits ts w).broker.records))
 run_hands_released limits ts w u fair c r e = (run_hands limits ts w u fair c r e).released
 
 -- what its packets carry is what the copies are
-pub run_carries : (limits : Limits) (ts : List Turn) (w : World) → IsUntouched limits w → IsFair limits ts w → (c : List ℕ) (r : Receiver) → receiver_named c (run limits ts w) ≡ Some r
+pub run_carries : (limits : Capacity) (ts : List Turn) (w : World) → IsUntouched limits w → IsFair limits ts w → (c : List ℕ) (r : Receiver) → receiver_named c (run limits ts w) ≡ Some r
     → CarryQueued (session_named r.client (run limits ts w).broker.records) r.ledger × CarryQueued (session_named r.client (run limits ts w).broker.records) r.once
 run_carries limits ts w u fair c r e =
     let h = run_hands limits ts w u fair c r e in
@@ -99,7 +99,7 @@ run_carries limits ts w u fair c r e =
 -- ---- runs one after the other
 
 -- two runs spend nothing if both together do
-pub spent_append : (limits : Limits) (xs ys : List Turn) (w : World) → run_spends limits (xs ++ ys) w ≡ false → (run_spends limits xs w ≡ false) × (run_spends limits ys (run limits xs w) ≡ false)
+pub spent_append : (limits : Capacity) (xs ys : List Turn) (w : World) → run_spends limits (xs ++ ys) w ≡ false → (run_spends limits xs w ≡ false) × (run_spends limits ys (run limits xs w) ≡ false)
 spent_append limits [] ys w h = (refl, h)
 spent_append limits (t ∷ xs) ys w h =
     let v = turned limits t w in
@@ -108,7 +108,7 @@ spent_append limits (t ∷ xs) ys w h =
     (rw (costs.0, rest.0) refl, rest.1)
 
 -- their beginnings are clean if those of both are
-pub carried_append : (limits : Limits) (xs ys : List Turn) (w : World) → are_beginnings_clean limits (xs ++ ys) w ≡ true → (are_beginnings_clean limits xs w ≡ true) × (are_beginnings_clean limits ys (run limits xs w) ≡ true)
+pub carried_append : (limits : Capacity) (xs ys : List Turn) (w : World) → are_beginnings_clean limits (xs ++ ys) w ≡ true → (are_beginnings_clean limits xs w ≡ true) × (are_beginnings_clean limits ys (run limits xs w) ≡ true)
 carried_append limits [] ys w h = (refl, h)
 carried_append limits (t ∷ xs) ys w h =
     let v = turned limits t w in
@@ -119,7 +119,7 @@ carried_append limits (t ∷ xs) ys w h =
 -- ---- in the order of its queue
 
 -- what is handed over keeps its order
-pub run_in_order : (limits : Limits) (xs ys : List Turn) (w : World) → IsUntouched limits w → IsFair limits (xs ++ ys) w → (c : List ℕ) (q r : Receiver) → receiver_named c (run limits xs w) ≡ Some q → receiver_named c (run limits (xs ++ ys) w) ≡ Some r
+pub run_in_order : (limits : Capacity) (xs ys : List Turn) (w : World) → IsUntouched limits w → IsFair limits (xs ++ ys) w → (c : List ℕ) (q r : Receiver) → receiver_named c (run limits xs w) ≡ Some q → receiver_named c (run limits (xs ++ ys) w) ≡ Some r
     → AreHandedInOrder (queued_by (session_named q.client (run limits xs w).broker.records)) r
 run_in_order limits xs ys w u fair c q r e f =
     let costs = spent_append limits xs ys w fair.unspent in
@@ -141,7 +141,7 @@ run_in_order limits xs ys w u fair c q r e f =
 -- ---- for good
 
 -- and stays handed over
-pub run_for_good : (limits : Limits) (xs ys : List Turn) (w : World) → IsUntouched limits w → IsFair limits (xs ++ ys) w → (c : List ℕ) (q r : Receiver) → receiver_named c (run limits xs w) ≡ Some q → receiver_named c (run limits (xs ++ ys) w) ≡ Some r
+pub run_for_good : (limits : Capacity) (xs ys : List Turn) (w : World) → IsUntouched limits w → IsFair limits (xs ++ ys) w → (c : List ℕ) (q r : Receiver) → receiver_named c (run limits xs w) ≡ Some q → receiver_named c (run limits (xs ++ ys) w) ≡ Some r
     → All (λ (copy : CopyId). handed_count copy r ≡ 1) (released_in (session_named q.client (run limits xs w).broker.records))
 run_for_good limits xs ys w u fair c q r e f =
     let costs = spent_append limits xs ys w fair.unspent in
@@ -156,7 +156,7 @@ run_for_good limits xs ys w u fair c q r e f =
     (recursion_from_All (λ (copy : CopyId). handed_count copy q ≡ 1) copies then_))
 
 -- a run keeps what was handed over
-pub run_keeps_ledger : (limits : Limits) (ys : List Turn) (v : World) (c : List ℕ) (q r : Receiver) → receiver_named c v ≡ Some q → receiver_named c (run limits ys v) ≡ Some r → Grows q r
+pub run_keeps_ledger : (limits : Capacity) (ys : List Turn) (v : World) (c : List ℕ) (q r : Receiver) → receiver_named c v ≡ Some q → receiver_named c (run limits ys v) ≡ Some r → Grows q r
 run_keeps_ledger limits ys v c q r e f =
     let x = run_remains c limits ys v q e in
     let both : Some x.0 ≡ Some r = sym x.1 ∙ f in
@@ -166,12 +166,12 @@ run_keeps_ledger limits ys v c q r e f =
 -- ---- what is acknowledged
 
 -- a copy of QoS 1 that a PUBACK ends as taken was read
-pub run_acknowledges : (limits : Limits) (ts : List Turn) (choice : MemberChoice) (w : World) → IsUntouched limits w → IsFair limits ts w → (c : List ℕ) (i code : ℕ) (rest : List Back) (r : Receiver) → receiver_named c (run limits ts w) ≡ Some r
+pub run_acknowledges : (limits : Capacity) (ts : List Turn) (choice : MemberChoice) (w : World) → IsUntouched limits w → IsFair limits ts w → (c : List ℕ) (i code : ℕ) (rest : List Back) (r : Receiver) → receiver_named c (run limits ts w) ≡ Some r
     → r.line.up ≡ answers (puback i code) ∷ rest → AreRead r (record { limits = limits; choice = choice }) (to_broker c) (run limits ts w)
 run_acknowledges limits ts choice w u fair c i code rest r e up = acknowledged_read [] c any_size i code rest (record { limits = limits; choice = choice }) r (run limits ts w) (fair_run_kept limits ts w u fair c).stands e up
 
 -- also if the PUBACK comes on the old line
-pub run_acknowledges_there : (limits : Limits) (ts : List Turn) (choice : MemberChoice) (w : World) → IsUntouched limits w → IsFair limits ts w → (c : List ℕ) (i code : ℕ) (rest : List Back) (r : Receiver) → receiver_named c (run limits ts w) ≡ Some r
+pub run_acknowledges_there : (limits : Capacity) (ts : List Turn) (choice : MemberChoice) (w : World) → IsUntouched limits w → IsFair limits ts w → (c : List ℕ) (i code : ℕ) (rest : List Back) (r : Receiver) → receiver_named c (run limits ts w) ≡ Some r
     → r.line.old ≡ answers (puback i code) ∷ rest → AreRead r (record { limits = limits; choice = choice }) (old_to_broker c) (run limits ts w)
 run_acknowledges_there limits ts choice w u fair c i code rest r e old = acknowledged_read_there [] c any_size i code rest (record { limits = limits; choice = choice }) r (run limits ts w) (fair_run_kept limits ts w u fair c).stands e old
 
@@ -187,7 +187,7 @@ takes_some c w takes sends r n birth l e is at on =
     (x.1, omega (arith, above, same), queue_fits birth w.broker sends.contents)
 
 -- after a round that spends no number
-pub over_or_drained : (limits : Limits) (choice : MemberChoice) (c : List ℕ) (v : World) → IsKept [] c limits v → run_spends limits (round_turns limits choice c v) v ≡ false
+pub over_or_drained : (limits : Capacity) (choice : MemberChoice) (c : List ℕ) (v : World) → IsKept [] c limits v → run_spends limits (round_turns limits choice c v) v ≡ false
     → (is_over c (after_round limits choice c v) ≡ true) ⊎ MayBeDrained c any_size (after_round limits choice c v)
 over_or_drained limits choice c v kept unspent =
     let k = run_kept [] c limits (round_turns limits choice c v) v kept unspent (round_carried c limits choice v) in
@@ -195,13 +195,13 @@ over_or_drained limits choice c v kept unspent =
     over_or_drains [] c any_size limits later k.stands k.fit.distinct (takes_some c later k.fit.takes k.fit.well.sends) (none_after c limits choice v)
 
 -- a drain ends within its bound
-pub drain_within : (limits : Limits) (ts : List Turn) (choice : MemberChoice) (c : List ℕ) (most : ℕ) (w : World) → IsUntouched limits w → IsFair limits ts w
+pub drain_within : (limits : Capacity) (ts : List Turn) (choice : MemberChoice) (c : List ℕ) (most : ℕ) (w : World) → IsUntouched limits w → IsFair limits ts w
     → run_spends limits (round_turns limits choice c (run limits ts w)) (run limits ts w) ≡ false
     → rounds_taken limits choice c most (run limits ts w) ≤ enough_rounds (copies_left c (after_round limits choice c (run limits ts w)))
 drain_within limits ts choice c most w u fair unspent = ends_within c limits choice any_size most (run limits ts w) (over_or_drained limits choice c (run limits ts w) (fair_run_kept limits ts w u fair c) unspent)
 
 -- and its queue is empty then
-pub drain_over : (limits : Limits) (ts : List Turn) (choice : MemberChoice) (c : List ℕ) (most : ℕ) (w : World) → IsUntouched limits w → IsFair limits ts w
+pub drain_over : (limits : Capacity) (ts : List Turn) (choice : MemberChoice) (c : List ℕ) (most : ℕ) (w : World) → IsUntouched limits w → IsFair limits ts w
     → run_spends limits (round_turns limits choice c (run limits ts w)) (run limits ts w) ≡ false
     → enough_rounds (copies_left c (after_round limits choice c (run limits ts w))) ≤ most → is_over c (drained limits choice c most (run limits ts w)) ≡ true
 drain_over limits ts choice c most w u fair unspent enough = ends_over c limits choice any_size most (run limits ts w) (over_or_drained limits choice c (run limits ts w) (fair_run_kept limits ts w u fair c) unspent) enough

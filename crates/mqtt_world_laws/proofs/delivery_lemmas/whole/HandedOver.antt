@@ -4,7 +4,7 @@ use Rattle.mqtt_base.specs.declared.session.CopyId.{CopyId}
 use Rattle.mqtt_world_model.specs.model.Ends.{Receiver}
 use Rattle.mqtt_world_model.specs.model.World.{World, receiver_named}
 use Rattle.mqtt_records.specs.lists.Distinct.{AllDiffer}
-use Rattle.mqtt_rules.specs.declared.step.Limits.{Limits}
+use Rattle.mqtt_rules.specs.declared.step.Capacity.{Capacity}
 use Rattle.mqtt_world_laws.specs.receiver.Own.{RunsAlone}
 use Rattle.mqtt_world_laws.proofs.receiver_lemmas.queue.Handed.{all_tagged, at_most_once, carried_all, dropped_is, expired_is, in_order, read_is, released_once, taken_is}
 use Rattle.mqtt_world_laws.proofs.receiver_lemmas.queue.Numbers.{place_of}
@@ -13,7 +13,7 @@ use Rattle.mqtt_world_laws.specs.delivery.Standing.{IsPlaced, IsSeen, Stands}
 use Rattle.mqtt_world_laws.proofs.delivery_lemmas.others.Standings.{runs_so}
 
 -- a receiver that stands was handed copies that entered, each once
-pub handed_over : (first : List CopyId) (c : List ℕ) (largest : ℕ) (limits : Limits) (r : Receiver) (w : World) → Stands first c largest limits w → receiver_named c w ≡ Some r → WasHandedOver r w.broker
+pub handed_over : (first : List CopyId) (c : List ℕ) (largest : ℕ) (limits : Capacity) (r : Receiver) (w : World) → Stands first c largest limits w → receiver_named c w ≡ Some r → WasHandedOver r w.broker
 handed_over first c largest limits r w s e = record {
   copies = x.after;
   number = place_of s.ids;

@@ -16,7 +16,7 @@ use Rattle.mqtt_world_model.specs.model.Lines.{Down, Line, gives_up, left, stand
 use Rattle.mqtt_world_model.specs.model.Run.{Turn, run, setting, turned}
 use Rattle.mqtt_world_model.specs.model.World.{Asking, Event, Setting, World, answers_rest, ask, asks, asks_wish, before, break, call_of, call_of_stranger, calls, calls_if, clock, comes, connect_end, first_step, give_up, happens, held_count, is_bad, linked_at, links, next_held, next_line, old_to_broker, publish, publisher, pump, receiver, receiver_named, receiver_restarted, receiver_told, restart, restarts, stop_after, stop_before, stranger, stranger_named, subscribe, taken_old, taken_up, tick, to_broker, to_end}
 use Rattle.mqtt_rules.specs.step.Step.{Call, NewLine, stepped, told}
-use Rattle.mqtt_rules.specs.declared.step.Limits.{Limits}
+use Rattle.mqtt_rules.specs.declared.step.Capacity.{Capacity}
 use Rattle.mqtt_world_laws.proofs.acceptance_lemmas.copies.Counting.{count_append}
 use Rattle.mqtt_world_laws.proofs.acceptance_lemmas.publishers.Ends.{find_first, find_receiver}
 use Rattle.mqtt_world_laws.proofs.delivery_lemmas.others.Around.{on_back}
@@ -177,7 +177,7 @@ module _ (c : List ℕ) where
   happens_remains : (set : Setting) (e : Event) (w : World) → Remains c w (happens set e w)
   happens_remains set (publisher d) w = same_remains w (happens set (publisher d) w) refl
   happens_remains set (receiver d window aliases) w = λ q e. (q, find_first (λ (r : Receiver). bytes_eq r.client c) (new_receiver d window aliases w.broker.records.births) q w.receivers e, grows_same q q refl refl refl)
-  happens_remains set (connect_end d clean) w = links_remain set (next_line w.broker) d clean w
+  happens_remains set (connect_end d clean) w = links_remain set (next_line set.limits w.broker) d clean w
   happens_remains set (give_up d) w = mapped_remains w (happens set (give_up d) w) (λ r. cond (bytes_eq r.client d) (on_back (λ l. gives_up l.link l) r) r) (keeping_one d (on_back (λ l. gives_up l.link l)) (keeping (on_back (λ l. gives_up l.link l)) (λ r. refl) (λ r. refl) (λ r. refl) (λ r. refl))) refl
   happens_remains set (publish d x) w = same_remains w (happens set (publish d x) w) refl
   happens_remains set (subscribe d x) w = mapped_remains w (happens set (subscribe d x) w) _ (keeping_one d (λ r. asks_wish (stands r.line.number w.broker) x r) (keeping (λ r. asks_wish (stands r.line.number w.broker) x r) (λ r. refl) (λ r. refl) (λ r. refl) (λ r. refl))) refl
@@ -190,7 +190,7 @@ module _ (c : List ℕ) where
   happens_remains set (stop_after a) w = then_remains w (first_step set a w) (happens set (stop_after a) w) (first_remains set a w) (restarts_remain set (first_step set a w))
 
   -- in a run what a receiver has read stays read
-  pub run_remains : (limits : Limits) (ts : List Turn) (w : World) → Remains c w (run limits ts w)
+  pub run_remains : (limits : Capacity) (ts : List Turn) (w : World) → Remains c w (run limits ts w)
   run_remains limits [] w = same_remains w w refl
   run_remains limits (t ∷ ts) w = then_remains w (turned limits t w) (run limits ts (turned limits t w)) (by (is_bad t.event w)) (run_remains limits ts (turned limits t w))
     where
@@ -201,7 +201,7 @@ module _ (c : List ℕ) where
 -- ---- so what was handed over once, and no more than once, was so for good
 
 -- what was handed over stays so
-pub handed_for_good : (c : List ℕ) (limits : Limits) (ys : List Turn) (v : World) (q r : Receiver) (copy : CopyId) → receiver_named c v ≡ Some q → receiver_named c (run limits ys v) ≡ Some r → handed_count copy q ≡ 1 → handed_count copy r ≤ 1
+pub handed_for_good : (c : List ℕ) (limits : Capacity) (ys : List Turn) (v : World) (q r : Receiver) (copy : CopyId) → receiver_named c v ≡ Some q → receiver_named c (run limits ys v) ≡ Some r → handed_count copy q ≡ 1 → handed_count copy r ≤ 1
     → handed_count copy r ≡ 1
 handed_for_good c limits ys v q r copy e f one most =
     let x = run_remains c limits ys v q e in

@@ -13,7 +13,7 @@ use Rattle.mqtt_world_model.specs.model.Lines.{Line, gives_up, joined, left, sta
 use Rattle.mqtt_world_model.specs.model.Run.{Turn, are_beginnings_clean, begins_clean, deeds_at, deeds_over, entered_in, run, setting, turned}
 use Rattle.mqtt_world_model.specs.model.World.{Asking, Event, Setting, World, answers_rest, ask, asks, asks_wish, before, break, call_of, call_of_stranger, calls, calls_if, clock, comes, connect_end, first_step, give_up, happens, held_count, is_bad, linked_at, links, next_held, next_line, old_to_broker, publish, publisher, pump, receiver, receiver_named, receiver_restarted, receiver_told, restart, restarts, stop_after, stop_before, stranger, stranger_named, subscribe, taken_old, taken_up, tick, to_broker, to_end}
 use Rattle.mqtt_rules.specs.step.Step.{Call, NewLine, stepped, told}
-use Rattle.mqtt_rules.specs.declared.step.Limits.{Limits}
+use Rattle.mqtt_rules.specs.declared.step.Capacity.{Capacity}
 use Rattle.mqtt_world_laws.specs.acceptance.Copies.{entered_from}
 use Rattle.mqtt_world_laws.specs.acceptance.Fair.{IsFair}
 use Rattle.mqtt_world_laws.proofs.acceptance_lemmas.publishers.Ends.{find_last, find_no_more, find_receiver, only_receiver}
@@ -120,7 +120,7 @@ module _ (c : List ℕ) where
         })
     | inr other ↦ inl (find_no_more (λ (r : Receiver). bytes_eq r.client c) (new_receiver d window aliases w.broker.records.births) w.receivers other ∙ none)
   ]
-  event_comes set (connect_end d clean) w good begins none = inl (links_stay set (next_line w.broker) d clean w none)
+  event_comes set (connect_end d clean) w good begins none = inl (links_stay set (next_line set.limits w.broker) d clean w none)
   event_comes set (give_up d) w good begins none = inl (line_stays d (λ l. gives_up l.link l) w (happens set (give_up d) w) refl none)
   event_comes set (publish d x) w good begins none = inl none
   event_comes set (subscribe d x) w good begins none = inl (one_stays d (λ r. asks_wish (stands r.line.number w.broker) x r) w (happens set (subscribe d x) w) (λ r. refl) refl none)
@@ -132,7 +132,7 @@ module _ (c : List ℕ) where
   event_comes set (stop_before a) w good begins none = inl (restarts_stay set (before set a w) (before_stays set a w none))
   event_comes set (stop_after a) w good begins none = inl (restarts_stay set (first_step set a w) (first_stays set a w none))
 
-  module _ (limits : Limits) where
+  module _ (limits : Capacity) where
     turn_comes : (t : Turn) (w : World) → begins_clean t.event w ≡ true → receiver_named c w ≡ None → (receiver_named c (turned limits t w) ≡ None) ⊎ IsNewcomer (turned limits t w)
     turn_comes t w clean none = by (is_bad t.event w) refl
       where
@@ -157,7 +157,7 @@ module _ (c : List ℕ) where
       | inr new ↦ record { first = t ∷ []; later = ts; are = refl; new = new }
     ]
 
-entered_parts : (limits : Limits) (xs ys : List Turn) (w : World) → entered_from limits (xs ++ ys) w ≡ entered_from limits xs w ++ entered_from limits ys (run limits xs w)
+entered_parts : (limits : Capacity) (xs ys : List Turn) (w : World) → entered_from limits (xs ++ ys) w ≡ entered_from limits xs w ++ entered_from limits ys (run limits xs w)
 entered_parts limits [] ys w = refl
 entered_parts limits (t ∷ xs) ys w =
     let u = turned limits t w in
@@ -169,7 +169,7 @@ entered_parts limits (t ∷ xs) ys w =
     ∙ ap (λ (ids : List CopyId). ids ++ entered_from limits ys (run limits xs u)) (sym (filter_map-append entered_in ds (deeds_over limits xs u)))))
 
 -- in every fair run all that a new receiver was handed had entered, in that order
-pub run_hands_all : (limits : Limits) (ts : List Turn) (w : World) → IsUntouched limits w → IsFair limits ts w → (c : List ℕ) (r : Receiver) → receiver_named c (run limits ts w) ≡ Some r → stand_among (copies_in r.ledger) (entered_from limits ts w) ≡ true
+pub run_hands_all : (limits : Capacity) (ts : List Turn) (w : World) → IsUntouched limits w → IsFair limits ts w → (c : List ℕ) (r : Receiver) → receiver_named c (run limits ts w) ≡ Some r → stand_among (copies_in r.ledger) (entered_from limits ts w) ≡ true
 run_hands_all limits ts w u fair c r e =
     let nobody : receiver_named c w ≡ None = ap (find (λ (x : Receiver). bytes_eq x.client c)) u.new.receivers in
     let x = parts c limits ts w r fair.clean nobody e in
@@ -180,7 +180,7 @@ run_hands_all limits ts w u fair c r e =
     subst (λ (ids : List CopyId). stand_among (copies_in r.ledger) ids ≡ true) (sym (entered_parts limits x.first x.later w) ∙ ap (λ (zs : List Turn). entered_from limits zs w) x.are) (stand_behind (copies_in r.ledger) (entered_from limits x.first w) later behind)
 
 -- and all that it has read of QoS 1, each copy where it was read first
-pub run_reads_all : (limits : Limits) (ts : List Turn) (w : World) → IsUntouched limits w → IsFair limits ts w → (c : List ℕ) (r : Receiver) → receiver_named c (run limits ts w) ≡ Some r → stand_among (copies_in (first_reads r.once)) (entered_from limits ts w) ≡ true
+pub run_reads_all : (limits : Capacity) (ts : List Turn) (w : World) → IsUntouched limits w → IsFair limits ts w → (c : List ℕ) (r : Receiver) → receiver_named c (run limits ts w) ≡ Some r → stand_among (copies_in (first_reads r.once)) (entered_from limits ts w) ≡ true
 run_reads_all limits ts w u fair c r e =
     let nobody : receiver_named c w ≡ None = ap (find (λ (x : Receiver). bytes_eq x.client c)) u.new.receivers in
     let x = parts c limits ts w r fair.clean nobody e in

@@ -3,7 +3,7 @@ use Rattle.std.proofs.Common.{◌≡◌, ℕ, zero, suc, ◌+◌, ◌*◌, ◌�
 use Rattle.mqtt_world_model.specs.model.Run.{Turn, are_beginnings_clean, run}
 use Rattle.mqtt_world_model.specs.model.World.{World, receiver_named, start}
 use Rattle.mqtt_rules.specs.step.State.{MemberChoice}
-use Rattle.mqtt_rules.specs.declared.step.Limits.{Limits}
+use Rattle.mqtt_rules.specs.declared.step.Capacity.{Capacity}
 use Rattle.mqtt_world_laws.proofs.acceptance_lemmas.copies.Walks.{counted}
 use Rattle.mqtt_world_laws.specs.acceptance.Fair.{IsFair}
 use Rattle.mqtt_world_laws.specs.acceptance.Identities.{TellsApart}
@@ -26,7 +26,7 @@ use Rattle.mqtt_world_laws.proofs.delivery_lemmas.whole.Newcomers.{run_hands_all
 use Rattle.mqtt_world_laws.proofs.delivery_lemmas.broker.Untouched.{start_untouched}
 
 -- every fair run delivers exactly once
-pub run_delivers : (limits : Limits) (ts : List Turn) (w : World) → IsUntouched limits w → TellsApart w.broker.records → IsFair limits ts w → DeliversOnce limits ts w
+pub run_delivers : (limits : Capacity) (ts : List Turn) (w : World) → IsUntouched limits w → TellsApart w.broker.records → IsFair limits ts w → DeliversOnce limits ts w
 run_delivers limits ts w u apart fair = record {
   accepted = accepts_once limits ts w u.new fair;
   carried = all_carried limits ts w u.new fair;
@@ -51,7 +51,7 @@ run_delivers limits ts w u apart fair = record {
 -- ---- a drain
 
 -- it is over already
-none_taken : (limits : Limits) (choice : MemberChoice) (c : List ℕ) (most : ℕ) (w : World) → is_over c w ≡ true → DrainEnds limits choice c most w
+none_taken : (limits : Capacity) (choice : MemberChoice) (c : List ℕ) (most : ℕ) (w : World) → is_over c w ≡ true → DrainEnds limits choice c most w
 none_taken limits choice c zero w over = record {
   is_within = omega arith;
   over = λ enough. let le : 2 * copies_left c (after_round limits choice c w) + 1 ≤ 0 = enough in absurd (omega (arith, le));
@@ -66,7 +66,7 @@ none_taken limits choice c (suc more) w over =
     }
 
 -- or it goes on, and its first round spends no number
-drain_ends : (limits : Limits) (choice : MemberChoice) (c : List ℕ) (most : ℕ) (w : World) → IsKept [] c limits w → run_spends limits (turns_of limits (drains choice c most) w) w ≡ false → DrainEnds limits choice c most w
+drain_ends : (limits : Capacity) (choice : MemberChoice) (c : List ℕ) (most : ℕ) (w : World) → IsKept [] c limits w → run_spends limits (turns_of limits (drains choice c most) w) w ≡ false → DrainEnds limits choice c most w
 drain_ends limits choice c most w k unspent = by_bad (is_bad_drain c w) refl unspent
   where
     by_over : (j : ℕ) (t : Bool) → is_over c w ≡ t → run_spends limits (drain_turns limits choice c j w) w ≡ false → DrainEnds limits choice c j w
@@ -91,11 +91,11 @@ drain_ends limits choice c most w k unspent = by_bad (is_bad_drain c w) refl uns
 
 -- ---- a script
 
-doing_ends : (limits : Limits) (d : Doing) (w : World) → ((c : List ℕ) → IsKept [] c limits w) → run_spends limits (turns_of limits d w) w ≡ false → EndsWhere limits d w
+doing_ends : (limits : Capacity) (d : Doing) (w : World) → ((c : List ℕ) → IsKept [] c limits w) → run_spends limits (turns_of limits d w) w ≡ false → EndsWhere limits d w
 doing_ends limits (happens t) w k u = tt
 doing_ends limits (drains choice c most) w k u = drain_ends limits choice c most w (k c) u
 
-all_end : (limits : Limits) (ds : List Doing) (w : World) → ((c : List ℕ) → IsKept [] c limits w) → run_spends limits (all_turns limits ds w) w ≡ false → are_beginnings_clean limits (all_turns limits ds w) w ≡ true → AllDrainsEnd limits ds w
+all_end : (limits : Capacity) (ds : List Doing) (w : World) → ((c : List ℕ) → IsKept [] c limits w) → run_spends limits (all_turns limits ds w) w ≡ false → are_beginnings_clean limits (all_turns limits ds w) w ≡ true → AllDrainsEnd limits ds w
 all_end limits [] w k unspent carried = tt
 all_end limits (d ∷ ds) w k unspent carried =
     let turns = turns_of limits d w in
@@ -105,15 +105,15 @@ all_end limits (d ∷ ds) w k unspent carried =
     (doing_ends limits d w k costs.0, all_end limits ds v (λ c. run_kept [] c limits turns w (k c) costs.0 clean.0) costs.1 clean.1)
 
 -- and every drain of a script ends
-pub script_drains : (limits : Limits) (ds : List Doing) (w : World) → IsUntouched limits w → IsFair limits (all_turns limits ds w) w → AllDrainsEnd limits ds w
+pub script_drains : (limits : Capacity) (ds : List Doing) (w : World) → IsUntouched limits w → IsFair limits (all_turns limits ds w) w → AllDrainsEnd limits ds w
 script_drains limits ds w u fair = all_end limits ds w (λ c. untouched_kept c limits w fair.within u) fair.unspent fair.clean
 
 -- ---- from nothing
 
 -- also from the start
-pub start_delivers : (limits : Limits) (ds : List Doing) → IsFair limits (all_turns limits ds start) start → DeliversOnce limits (all_turns limits ds start) start
+pub start_delivers : (limits : Capacity) (ds : List Doing) → IsFair limits (all_turns limits ds start) start → DeliversOnce limits (all_turns limits ds start) start
 start_delivers limits ds fair = run_delivers limits (all_turns limits ds start) start (start_untouched limits fair.within) start_apart fair
 
 -- also from the start
-pub start_drains : (limits : Limits) (ds : List Doing) → IsFair limits (all_turns limits ds start) start → AllDrainsEnd limits ds start
+pub start_drains : (limits : Capacity) (ds : List Doing) → IsFair limits (all_turns limits ds start) start → AllDrainsEnd limits ds start
 start_drains limits ds fair = script_drains limits ds start (start_untouched limits fair.within) fair

@@ -11,7 +11,7 @@ use Rattle.mqtt_world_model.specs.model.Run.{End, Turn, after, deeds_at, deeds_o
 use Rattle.mqtt_world_model.specs.model.World.{World, receiver_named, start}
 use Rattle.mqtt_rules.proofs.step_lemmas.numbers.Copies.{each_append, each_more}
 use Rattle.mqtt_rules.specs.step.Deeds.{Deed}
-use Rattle.mqtt_rules.specs.declared.step.Limits.{Limits}
+use Rattle.mqtt_rules.specs.declared.step.Capacity.{Capacity}
 use Rattle.mqtt_world_laws.specs.acceptance.Copies.{entered_from}
 use Rattle.mqtt_world_laws.specs.acceptance.Fair.{IsFair}
 use Rattle.mqtt_world_laws.proofs.acceptance_lemmas.copies.CopyRuns.{run_balances, run_numbers}
@@ -33,7 +33,7 @@ use Rattle.mqtt_world_laws.proofs.delivery_lemmas.broker.Untouched.{start_untouc
 
 -- ---- the deeds of one run and then another
 
-deeds_parts : (limits : Limits) (xs ys : List Turn) (w : World) → deeds_over limits (xs ++ ys) w ≡ deeds_over limits xs w ++ deeds_over limits ys (run limits xs w)
+deeds_parts : (limits : Capacity) (xs ys : List Turn) (w : World) → deeds_over limits (xs ++ ys) w ≡ deeds_over limits xs w ++ deeds_over limits ys (run limits xs w)
 deeds_parts limits [] ys w = refl
 deeds_parts limits (t ∷ xs) ys w =
     let u = turned limits t w in
@@ -70,7 +70,7 @@ counted_among x (y ∷ ys) h =
     ]
 
 -- so its session's birth was given
-ended_upto : (limits : Limits) (xs : List Turn) → IsUntouched limits start → IsFair limits xs start → AllByRecursion (λ (e : End). e.copy.birth ≤ (run limits xs start).broker.records.births) (filter_map ended_in (deeds_over limits xs start))
+ended_upto : (limits : Capacity) (xs : List Turn) → IsUntouched limits start → IsFair limits xs start → AllByRecursion (λ (e : End). e.copy.birth ≤ (run limits xs start).broker.records.births) (filter_map ended_in (deeds_over limits xs start))
 ended_upto limits xs u fair =
     let ends = filter_map ended_in (deeds_over limits xs start) in
     let last = (run limits xs start).broker.records.births in
@@ -84,7 +84,7 @@ ended_upto limits xs u fair =
 
 -- ---- one receiver
 
-module _ (limits : Limits) (ts : List Turn) (fair : IsFair limits ts start) (r : Receiver) (found : receiver_named r.client (run limits ts start) ≡ Some r) where
+module _ (limits : Capacity) (ts : List Turn) (fair : IsFair limits ts start) (r : Receiver) (found : receiver_named r.client (run limits ts start) ≡ Some r) where
   u : IsUntouched limits start
   u = start_untouched limits fair.within
 
@@ -146,7 +146,7 @@ module _ (limits : Limits) (ts : List Turn) (fair : IsFair limits ts start) (r :
 -- ---- each of them
 
 -- in every fair run from the start all are handed copies once
-pub all_handed_whole : (limits : Limits) (ts : List Turn) → IsFair limits ts start → AllHandedOnce limits ts
+pub all_handed_whole : (limits : Capacity) (ts : List Turn) → IsFair limits ts start → AllHandedOnce limits ts
 all_handed_whole limits ts fair =
     let rs = (after limits ts).receivers in
     All-from_recursion (HandedOnce limits ts) rs

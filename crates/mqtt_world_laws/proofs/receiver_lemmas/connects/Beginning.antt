@@ -39,7 +39,7 @@ use Rattle.mqtt_rules.specs.step.Numbers.{HasGivenBirths}
 use Rattle.mqtt_rules.specs.step.Packets as packets_of
 use Rattle.mqtt_rules.specs.step.State.{Line as BrokerLine, Broker, Env, MemberChoice, session_at, session_named}
 use Rattle.mqtt_rules.specs.step.Step.{Input, at_moment, deeds, env_of, stepped}
-use Rattle.mqtt_rules.specs.declared.step.Limits.{Limits}
+use Rattle.mqtt_rules.specs.declared.step.Capacity.{Capacity}
 use Rattle.mqtt_topic.specs.names.Names.{is_empty}
 use Rattle.mqtt_world_laws.specs.receiver.Calls.{IsBeginning}
 use Rattle.mqtt_world_laws.specs.receiver.Entering.{AreKnown, Receives}
@@ -86,7 +86,7 @@ fresh_at row ss new less =
 -- ---- a session begins after these deeds
 
 -- what comes before: no session of the name is left, and there is a place for a new one, which nobody has had
-pub record Clears (limits : Limits) (choice : MemberChoice) (now : ℕ) (clean : Bool) (r : Receiver) (l : BrokerLine) (b : Broker) (front : List Deed) (ns : List ℕ) : Type 0 where
+pub record Clears (limits : Capacity) (choice : MemberChoice) (now : ℕ) (clean : Bool) (r : Receiver) (l : BrokerLine) (b : Broker) (front : List Deed) (ns : List ℕ) : Type 0 where
   pub deeds_are : deeds limits choice now (Input l.number (wire_back r.client r.window r.aliases (answers (connect clean)))) b
       ≡ On l.number Hear ∷ (front ++ beginning l r.window r.aliases r.client (suc (after_all front (heard_of now l.number b)).records.births))
   pub none : session_named r.client (after_all front (heard_of now l.number b)).records ≡ None
@@ -100,7 +100,7 @@ pub record Clears (limits : Limits) (choice : MemberChoice) (now : ℕ) (clean :
   pub open_still : is_one_of (Some l.number) ns ≡ false
   pub old : filter_map answered (unless_closed (is_one_of r.line.old_number ns) r.line.old) ≡ spared (filter_map answered r.line.old)
 
-module _ (number : Numbering) (largest : ℕ) (copies : List Lot) (limits : Limits) (choice : MemberChoice) (now : ℕ) (clean : Bool) (rest : List Back) (r : Receiver)
+module _ (number : Numbering) (largest : ℕ) (copies : List Lot) (limits : Capacity) (choice : MemberChoice) (now : ℕ) (clean : Bool) (rest : List Back) (r : Receiver)
     (l : BrokerLine) (b : Broker) (number_is : r.line.number ≡ Some l.number) where
   abbrev n : ℕ
   n = l.number
@@ -245,7 +245,7 @@ module _ (number : Numbering) (largest : ℕ) (copies : List Lot) (limits : Limi
 -- ---- no session of its name stands: one begins
 
 -- nothing becomes of another line
-pub first_beside : (number : Numbering) (ids : List CopyId) (limits : Limits) (choice : MemberChoice) (now : ℕ) (clean : Bool) (r : Receiver) (l : BrokerLine) (b : Broker) → Clears limits choice now clean r l b [] []
+pub first_beside : (number : Numbering) (ids : List CopyId) (limits : Capacity) (choice : MemberChoice) (now : ℕ) (clean : Bool) (r : Receiver) (l : BrokerLine) (b : Broker) → Clears limits choice now clean r l b [] []
     → (m : ℕ) → nat_eq l.number m ≡ false → Beside number ids limits choice now (Input l.number (wire_back r.client r.window r.aliases (answers (connect clean)))) m b false
 first_beside number ids limits choice now clean r l b c m other =
     let call = Input l.number (wire_back r.client r.window r.aliases (answers (connect clean))) in
@@ -301,7 +301,7 @@ off_heard k now n (l ∷ ls) h = by (nat_eq l.number n) (off_heard k now n ls h.
     by false g = (h.0, g)
 
 -- a first CONNECT leaves a new, empty session on its line
-pub first_clears : (limits : Limits) (choice : MemberChoice) (now : ℕ) (clean : Bool) (r : Receiver) (l : BrokerLine) (b : Broker)
+pub first_clears : (limits : Capacity) (choice : MemberChoice) (now : ℕ) (clean : Bool) (r : Receiver) (l : BrokerLine) (b : Broker)
     → IsBeginning limits r l b → nat_lt (length b.records.sessions) limits.sessions ≡ true → Clears limits choice now clean r l b [] []
 first_clears limits choice now clean r l b a room =
     let n = l.number in
@@ -331,7 +331,7 @@ first_clears limits choice now clean r l b a room =
     }
 
 -- a first CONNECT goes on as a new run of the hop
-pub first_begins : (number : Numbering) (largest : ℕ) (copies : List Lot) (limits : Limits) (choice : MemberChoice) (now : ℕ) (clean : Bool) (rest : List Back) (r : Receiver) (l : BrokerLine) (b : Broker)
+pub first_begins : (number : Numbering) (largest : ℕ) (copies : List Lot) (limits : Capacity) (choice : MemberChoice) (now : ℕ) (clean : Bool) (rest : List Back) (r : Receiver) (l : BrokerLine) (b : Broker)
     → IsRun number largest copies r b → IsBeginning limits r l b → nat_lt (length b.records.sessions) limits.sessions ≡ true → r.line.up ≡ answers (connect clean) ∷ rest
     → RunsOn number largest copies (reads_answer limits choice now l.number (connect clean) r b) (after_answer limits choice now l.number (connect clean) r b)
 first_begins number largest copies limits choice now clean rest r l b h a room up =
@@ -341,7 +341,7 @@ first_begins number largest copies limits choice now clean rest r l b h a room u
     ∙ ap (λ (z : Bool). connects z clean false (filter_map answered rest) w) (ap is_some a.none))
 
 -- and it may receive more
-pub first_receives : (number : Numbering) (largest : ℕ) (copies : List Lot) (limits : Limits) (choice : MemberChoice) (now : ℕ) (clean : Bool) (rest : List Back) (r : Receiver) (l : BrokerLine) (b : Broker)
+pub first_receives : (number : Numbering) (largest : ℕ) (copies : List Lot) (limits : Capacity) (choice : MemberChoice) (now : ℕ) (clean : Bool) (rest : List Back) (r : Receiver) (l : BrokerLine) (b : Broker)
     → IsRun number largest copies r b → IsBeginning limits r l b → nat_lt (length b.records.sessions) limits.sessions ≡ true → r.line.up ≡ answers (connect clean) ∷ rest
     → Receives (reads_answer limits choice now l.number (connect clean) r b) (after_answer limits choice now l.number (connect clean) r b)
 first_receives number largest copies limits choice now clean rest r l b h a room up =

@@ -22,7 +22,7 @@ use Rattle.mqtt_rules.specs.step.Outbound.{all_turn_deeds}
 use Rattle.mqtt_rules.specs.step.Packets.{pubrel}
 use Rattle.mqtt_rules.specs.step.State.{Line as BrokerLine, Broker, MemberChoice, line_at, line_of, queue_on}
 use Rattle.mqtt_rules.specs.step.Step.{Input, at_moment, deeds, env_of}
-use Rattle.mqtt_rules.specs.declared.step.Limits.{Limits}
+use Rattle.mqtt_rules.specs.declared.step.Capacity.{Capacity}
 use Rattle.mqtt_world_laws.specs.receiver.Calls.{IsBeginning, IsRenewing, IsResuming}
 use Rattle.mqtt_world_laws.specs.receiver.Connecting.{any_size}
 use Rattle.mqtt_world_laws.specs.receiver.Handing.{after_answer}
@@ -67,7 +67,7 @@ waits_on : (l : BrokerLine) (b : Broker) → line_at l.number b ≡ Some l → l
 waits_on l b at waits = ap (option_map (λ (x : BrokerLine). x.session)) at ∙ ap Some waits
 
 -- if the session is resumed
-pub resumed_line : (limits : Limits) (choice : MemberChoice) (now : ℕ) (r : Receiver) (l : BrokerLine) (s : Session) (b : Broker) → IsResuming r l s b
+pub resumed_line : (limits : Capacity) (choice : MemberChoice) (now : ℕ) (r : Receiver) (l : BrokerLine) (s : Session) (b : Broker) → IsResuming r l s b
     → HasGreeted l.number s.birth r.window (after_answer limits choice now l.number (connect false) r b)
 resumed_line limits choice now r l s b a =
     let n = l.number in
@@ -99,7 +99,7 @@ resumed_line limits choice now r l s b a =
     subst (λ (k : ℕ). HasGreeted n k r.window (after_answer limits choice now n (connect false) r b)) same (greeted_by left.now n x.birth r.window (granted r.aliases) left.lines _ still lines)
 
 -- if one begins
-begun_line : (limits : Limits) (choice : MemberChoice) (now : ℕ) (clean : Bool) (r : Receiver) (l : BrokerLine) (b : Broker) (front : List Deed) (ns : List ℕ) → Clears limits choice now clean r l b front ns
+begun_line : (limits : Capacity) (choice : MemberChoice) (now : ℕ) (clean : Bool) (r : Receiver) (l : BrokerLine) (b : Broker) (front : List Deed) (ns : List ℕ) → Clears limits choice now clean r l b front ns
     → HasGreeted l.number (suc (after_all front (heard_of now l.number b)).records.births) r.window (after_answer limits choice now l.number (connect clean) r b)
 begun_line limits choice now clean r l b front ns c =
     let n = l.number in
@@ -114,12 +114,12 @@ begun_line limits choice now clean r l b front ns c =
     greeted_by d.now n birth r.window (granted r.aliases) d.lines _ c.waits lines
 
 -- the first of its name
-pub first_line : (limits : Limits) (choice : MemberChoice) (now : ℕ) (clean : Bool) (r : Receiver) (l : BrokerLine) (b : Broker) → IsBeginning limits r l b → nat_lt (length b.records.sessions) limits.sessions ≡ true
+pub first_line : (limits : Capacity) (choice : MemberChoice) (now : ℕ) (clean : Bool) (r : Receiver) (l : BrokerLine) (b : Broker) → IsBeginning limits r l b → nat_lt (length b.records.sessions) limits.sessions ≡ true
     → HasGreeted l.number (suc b.records.births) r.window (after_answer limits choice now l.number (connect clean) r b)
 first_line limits choice now clean r l b a room = begun_line limits choice now clean r l b [] [] (first_clears limits choice now clean r l b a room)
 
 -- instead of the one before
-pub renewed_line : (limits : Limits) (choice : MemberChoice) (now : ℕ) (r : Receiver) (l : BrokerLine) (s : Session) (b : Broker) → IsRenewing limits r l s b
+pub renewed_line : (limits : Capacity) (choice : MemberChoice) (now : ℕ) (r : Receiver) (l : BrokerLine) (s : Session) (b : Broker) → IsRenewing limits r l s b
     → HasGreeted l.number (suc b.records.births) r.window (after_answer limits choice now l.number (connect true) r b)
 renewed_line limits choice now r l s b a =
     let x = renewed_clears limits choice now r l s b a in

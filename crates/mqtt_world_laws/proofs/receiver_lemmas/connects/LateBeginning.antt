@@ -20,7 +20,7 @@ use Rattle.mqtt_records.specs.declared.state.session.Session.{Session}
 use Rattle.mqtt_rules.specs.step.Deeds.{Deed, after_all, closing, output}
 use Rattle.mqtt_rules.specs.step.State.{Line as BrokerLine, Broker, MemberChoice, line_of, session_named}
 use Rattle.mqtt_rules.specs.step.Step.{Input, at_moment, deeds}
-use Rattle.mqtt_rules.specs.declared.step.Limits.{Limits}
+use Rattle.mqtt_rules.specs.declared.step.Capacity.{Capacity}
 use Rattle.mqtt_world_laws.specs.receiver.Calls.{IsBeginning, IsRenewing, reads_old_answer}
 use Rattle.mqtt_world_laws.specs.receiver.Entering.{Receives}
 use Rattle.mqtt_world_laws.specs.receiver.Handing.{IsRun, RunsOn, after_answer}
@@ -49,7 +49,7 @@ none_closes : (t : Bool) (w : Hop) (ups : List Back) (left : List Answer) (copie
 none_closes false w ups left copies2 e h u = λ i. record w { copies = copies2; stands = true; linked = h i; up = u i; down = sym (append-nil w.down) i; old = left }
 none_closes true w ups left copies2 e h u = absurd cc
 
-module _ (number : Numbering) (largest : ℕ) (copies : List Lot) (limits : Limits) (choice : MemberChoice) (now : ℕ) (clean : Bool) (rest : List Back) (r : Receiver)
+module _ (number : Numbering) (largest : ℕ) (copies : List Lot) (limits : Capacity) (choice : MemberChoice) (now : ℕ) (clean : Bool) (rest : List Back) (r : Receiver)
     (l : BrokerLine) (b : Broker) (a : IsBeginning limits (left_alone r) l b) (apart : is_one_of r.line.number (l.number ∷ []) ≡ false) (off : is_linked r.line.number b ≡ false)
     (room : nat_lt (length b.records.sessions) limits.sessions ≡ true) (old : r.line.old ≡ answers (connect clean) ∷ rest) where
   clears : Clears limits choice now clean (left_alone r) l b [] []
@@ -79,7 +79,7 @@ module _ (number : Numbering) (largest : ℕ) (copies : List Lot) (limits : Limi
   begins_receives = late_receives number largest copies (map cut copies) limits choice now clean rest r l.number (suc b.records.births) [] b old a.number apart linked_is_one refl (cut_ids copies) takes
 
 -- a first CONNECT on the old line leaves the receiver in step
-pub late_first_in_step : (largest : ℕ) (ids : List CopyId) (ns : List ℕ) (limits : Limits) (choice : MemberChoice) (now : ℕ) (clean : Bool) (rest : List Back) (r : Receiver) (l : BrokerLine) (b : Broker)
+pub late_first_in_step : (largest : ℕ) (ids : List CopyId) (ns : List ℕ) (limits : Capacity) (choice : MemberChoice) (now : ℕ) (clean : Bool) (rest : List Back) (r : Receiver) (l : BrokerLine) (b : Broker)
     → IsAwaiting largest ids ns r b → IsBeginning limits (left_alone r) l b → is_one_of r.line.number (l.number ∷ []) ≡ false → nat_lt (length b.records.sessions) limits.sessions ≡ true
     → r.line.old ≡ answers (connect clean) ∷ rest
     → IsInStep largest ids (suc b.records.births) ns (reads_old_answer limits choice now l.number (connect clean) r b) (after_answer limits choice now l.number (connect clean) r b)
@@ -98,7 +98,7 @@ late_first_in_step largest ids ns limits choice now clean rest r l b k a apart r
 
 -- ---- it is renewed
 
-module _ (number : Numbering) (largest : ℕ) (copies : List Lot) (limits : Limits) (choice : MemberChoice) (now : ℕ) (rest : List Back) (r : Receiver)
+module _ (number : Numbering) (largest : ℕ) (copies : List Lot) (limits : Capacity) (choice : MemberChoice) (now : ℕ) (rest : List Back) (r : Receiver)
     (l : BrokerLine) (s : Session) (b : Broker) (a : IsRenewing limits (left_alone r) l s b) (apart : is_one_of r.line.number (l.number ∷ []) ≡ false)
     (linked : is_linked r.line.number b ≡ is_one_of r.line.number (lines_left (line_of s.birth b))) (old : r.line.old ≡ answers (connect true) ∷ rest) where
   abbrev ns : List ℕ
@@ -137,7 +137,7 @@ module _ (number : Numbering) (largest : ℕ) (copies : List Lot) (limits : Limi
   renews_receives = late_receives number largest copies (map cut copies) limits choice now true rest r l.number birth ns b old a.resuming.number apart linked open_still (cut_ids copies) renews_takes
 
 -- so does one with Clean Start there
-pub late_renewal_in_step : (largest : ℕ) (ids : List CopyId) (birth : ℕ) (ns : List ℕ) (limits : Limits) (choice : MemberChoice) (now : ℕ) (rest : List Back) (r : Receiver) (l : BrokerLine) (s : Session) (b : Broker)
+pub late_renewal_in_step : (largest : ℕ) (ids : List CopyId) (birth : ℕ) (ns : List ℕ) (limits : Capacity) (choice : MemberChoice) (now : ℕ) (rest : List Back) (r : Receiver) (l : BrokerLine) (s : Session) (b : Broker)
     → IsInStep largest ids birth ns r b → IsRenewing limits (left_alone r) l s b → is_one_of r.line.number (l.number ∷ []) ≡ false
     → is_linked r.line.number b ≡ is_one_of r.line.number (lines_left (line_of s.birth b)) → r.line.old ≡ answers (connect true) ∷ rest
     → IsInStep largest ids (suc b.records.births) ns (reads_old_answer limits choice now l.number (connect true) r b) (after_answer limits choice now l.number (connect true) r b)
@@ -153,7 +153,7 @@ late_renewal_in_step largest ids birth ns limits choice now rest r l s b k a apa
 
 -- ---- there is no place for one: that line closes
 
-module _ (limits : Limits) (choice : MemberChoice) (now : ℕ) (clean : Bool) (rest : List Back) (r : Receiver) (l : BrokerLine) (b : Broker) (a : IsBeginning limits (left_alone r) l b)
+module _ (limits : Capacity) (choice : MemberChoice) (now : ℕ) (clean : Bool) (rest : List Back) (r : Receiver) (l : BrokerLine) (b : Broker) (a : IsBeginning limits (left_alone r) l b)
     (apart : is_one_of r.line.number (l.number ∷ []) ≡ false) (full : nat_lt (length b.records.sessions) limits.sessions ≡ false) (old : r.line.old ≡ answers (connect clean) ∷ rest) where
   abbrev n : ℕ
   n = l.number
@@ -224,7 +224,7 @@ module _ (limits : Limits) (choice : MemberChoice) (now : ℕ) (clean : Bool) (r
       }
 
 -- one that is refused there leaves it waiting
-pub late_refused_awaiting : (largest : ℕ) (ids : List CopyId) (ns : List ℕ) (limits : Limits) (choice : MemberChoice) (now : ℕ) (clean : Bool) (rest : List Back) (r : Receiver) (l : BrokerLine) (b : Broker)
+pub late_refused_awaiting : (largest : ℕ) (ids : List CopyId) (ns : List ℕ) (limits : Capacity) (choice : MemberChoice) (now : ℕ) (clean : Bool) (rest : List Back) (r : Receiver) (l : BrokerLine) (b : Broker)
     → IsAwaiting largest ids ns r b → IsBeginning limits (left_alone r) l b → is_one_of r.line.number (l.number ∷ []) ≡ false → nat_lt (length b.records.sessions) limits.sessions ≡ false
     → r.line.old ≡ answers (connect clean) ∷ rest
     → IsAwaiting largest ids ns (reads_old_answer limits choice now l.number (connect clean) r b) (after_answer limits choice now l.number (connect clean) r b)

@@ -19,7 +19,7 @@ use Rattle.mqtt_rules.proofs.step_lemmas.numbers.Copies.{each_append}
 use Rattle.mqtt_rules.specs.step.Deeds.{Deed, after_all, closing, output, rows_of_all}
 use Rattle.mqtt_rules.specs.step.State.{Broker, MemberChoice, session_named}
 use Rattle.mqtt_rules.specs.step.Step.{Call, Input, at_moment, deeds, stepped}
-use Rattle.mqtt_rules.specs.declared.step.Limits.{Limits}
+use Rattle.mqtt_rules.specs.declared.step.Capacity.{Capacity}
 use Rattle.mqtt_world_laws.specs.receiver.Calls.{reads_old_answer}
 use Rattle.mqtt_world_laws.specs.receiver.Entering.{Receives}
 use Rattle.mqtt_world_laws.specs.receiver.Handing.{IsRun, RunsOn, after_answer}
@@ -45,7 +45,7 @@ closes_own false w ups left copies2 h u st =
     ∙ (λ i. record w { copies = copies2; linked = false; up = if sym h i then [] else w.up; down = sent_on (sym h i) w.down (disconnect ∷ []); old = left })
 
 -- with the copies, the birth of the session, and the lines that are closed
-module _ (number : Numbering) (largest : ℕ) (copies copies2 : List Lot) (limits : Limits) (choice : MemberChoice) (now : ℕ) (clean : Bool) (rest : List Back) (r : Receiver)
+module _ (number : Numbering) (largest : ℕ) (copies copies2 : List Lot) (limits : Capacity) (choice : MemberChoice) (now : ℕ) (clean : Bool) (rest : List Back) (r : Receiver)
     (n birth : ℕ) (ns : List ℕ) (b : Broker) (old : r.line.old ≡ answers (connect clean) ∷ rest) (number_is : r.line.old_number ≡ Some n) (apart : is_one_of r.line.number (n ∷ []) ≡ false)
     (linked_is_one : is_linked r.line.number b ≡ is_one_of r.line.number ns) (open_still : is_one_of (Some n) ns ≡ false) (ids_are : map id_of copies2 ≡ map id_of copies)
     (takes : Takes number copies2 (map id_of copies) limits choice now (Input n (wire_back r.client r.window r.aliases (answers (connect clean)))) r.client n birth ns b) where

@@ -16,7 +16,7 @@ use Rattle.mqtt_records.specs.declared.state.session.Session.{Session}
 use Rattle.mqtt_rules.proofs.step_lemmas.flight.FlightRows.{all_at}
 use Rattle.mqtt_rules.specs.step.State.{Line as BrokerLine, Broker, MemberChoice, line_of}
 use Rattle.mqtt_rules.specs.step.Step.{Input}
-use Rattle.mqtt_rules.specs.declared.step.Limits.{Limits}
+use Rattle.mqtt_rules.specs.declared.step.Capacity.{Capacity}
 use Rattle.mqtt_world_laws.specs.receiver.Calls.{IsLate, IsResuming, reads_old_answer}
 use Rattle.mqtt_world_laws.specs.receiver.Entering.{Receives}
 use Rattle.mqtt_world_laws.specs.receiver.Handing.{IsRun, RunsOn, after_answer}
@@ -33,7 +33,7 @@ use Rattle.mqtt_world_laws.proofs.receiver_lemmas.connects.Resuming.{Takes, conn
 late_resuming : (r : Receiver) (l : BrokerLine) (s : Session) (b : Broker) → IsLate r l s b → IsResuming (left_alone r) l s b
 late_resuming r l s b a = record { number = a.number; line = a.line; waits = a.waits; fresh = a.fresh; kept = a.kept; taken = a.taken; alone = a.alone; old = refl }
 
-module _ (number : Numbering) (largest : ℕ) (copies : List Lot) (limits : Limits) (choice : MemberChoice) (now : ℕ) (rest : List Back) (r : Receiver)
+module _ (number : Numbering) (largest : ℕ) (copies : List Lot) (limits : Capacity) (choice : MemberChoice) (now : ℕ) (rest : List Back) (r : Receiver)
     (l : BrokerLine) (s : Session) (b : Broker) (h : IsRun number largest copies r b) (a : IsLate r l s b) (old : r.line.old ≡ answers (connect false) ∷ rest) where
   abbrev n : ℕ
   n = l.number
@@ -65,7 +65,7 @@ module _ (number : Numbering) (largest : ℕ) (copies : List Lot) (limits : Limi
   resumed_receives = late_receives number largest copies (map renewed copies) limits choice now false rest r n s.birth ns b old a.number a.apart a.linked open_still (renewed_ids copies) takes
 
 -- a CONNECT on the old line to a session that stands goes on with the hop
-pub late_connect_runs : (number : Numbering) (largest : ℕ) (copies : List Lot) (limits : Limits) (choice : MemberChoice) (now : ℕ) (rest : List Back) (r : Receiver) (l : BrokerLine) (s : Session) (b : Broker)
+pub late_connect_runs : (number : Numbering) (largest : ℕ) (copies : List Lot) (limits : Capacity) (choice : MemberChoice) (now : ℕ) (rest : List Back) (r : Receiver) (l : BrokerLine) (s : Session) (b : Broker)
     → IsRun number largest copies r b → IsLate r l s b → r.line.old ≡ answers (connect false) ∷ rest
     → RunsOn number largest copies (reads_old_answer limits choice now l.number (connect false) r b) (after_answer limits choice now l.number (connect false) r b)
     × Receives (reads_old_answer limits choice now l.number (connect false) r b) (after_answer limits choice now l.number (connect false) r b)
@@ -75,7 +75,7 @@ late_connect_runs number largest copies limits choice now rest r l s b h a old =
 -- ---- and so the two are in step
 
 -- and leaves the receiver in step
-pub late_resume_in_step : (largest : ℕ) (ids : List CopyId) (birth : ℕ) (ns : List ℕ) (limits : Limits) (choice : MemberChoice) (now : ℕ) (rest : List Back) (r : Receiver) (l : BrokerLine) (s : Session) (b : Broker)
+pub late_resume_in_step : (largest : ℕ) (ids : List CopyId) (birth : ℕ) (ns : List ℕ) (limits : Capacity) (choice : MemberChoice) (now : ℕ) (rest : List Back) (r : Receiver) (l : BrokerLine) (s : Session) (b : Broker)
     → IsInStep largest ids birth ns r b → IsLate r l s b → r.line.old ≡ answers (connect false) ∷ rest
     → IsInStep largest ids birth ns (reads_old_answer limits choice now l.number (connect false) r b) (after_answer limits choice now l.number (connect false) r b)
 late_resume_in_step largest ids birth ns limits choice now rest r l s b k a old =

@@ -33,7 +33,7 @@ use Rattle.mqtt_rules.specs.step.Numbers.{HasGivenBirths}
 use Rattle.mqtt_rules.specs.step.Packets as packets_of
 use Rattle.mqtt_rules.specs.step.State.{Line as BrokerLine, Broker, MemberChoice, is_of, line_of, queue_on, session_named}
 use Rattle.mqtt_rules.specs.step.Step.{Input, at_moment, deeds, env_of}
-use Rattle.mqtt_rules.specs.declared.step.Limits.{Limits}
+use Rattle.mqtt_rules.specs.declared.step.Capacity.{Capacity}
 use Rattle.mqtt_world_laws.specs.receiver.Calls.{IsBeginning, IsOnlyAt, IsRenewing, IsResuming}
 use Rattle.mqtt_world_laws.specs.receiver.Handing.{after_answer, reads_answer}
 use Rattle.mqtt_world_laws.specs.receiver.Own.{IsAwaiting, IsFreeLine, IsInStep}
@@ -55,7 +55,7 @@ module _ (client : List ℕ) (birth : ℕ) (ns : List ℕ) where
   resume_safe l window aliases now x e inside = ((refl, refl), ((e, inside), (tt, safe_turns client birth ns now l.number x (resumed_with (queue_on [] x)))))
 
   -- a session that is resumed on a line of the receiver's own is the receiver's still
-  pub resume_served : (limits : Limits) (choice : MemberChoice) (now : ℕ) (r : Receiver) (l : BrokerLine) (s : Session) (b : Broker) → IsResuming r l s b → s.birth ≡ birth → is_one_of (Some l.number) ns ≡ true
+  pub resume_served : (limits : Capacity) (choice : MemberChoice) (now : ℕ) (r : Receiver) (l : BrokerLine) (s : Session) (b : Broker) → IsResuming r l s b → s.birth ≡ birth → is_one_of (Some l.number) ns ≡ true
       → IsServed client birth ns b → IsServed client birth ns (after_answer limits choice now l.number (connect false) r b)
   resume_served limits choice now r l s b a e inside v =
       let n = l.number in
@@ -74,7 +74,7 @@ module _ (client : List ℕ) (birth : ℕ) (ns : List ℕ) where
       (subst (AreSafe client birth ns) (sym is) (tt, each_append (IsSafe client birth ns) (front ++ back) [] safe tt)) v
 
 -- a CONNECT to a session that stands leaves the receiver in step
-pub resume_in_step : (largest : ℕ) (ids : List CopyId) (birth : ℕ) (ns : List ℕ) (limits : Limits) (choice : MemberChoice) (now : ℕ) (rest : List Back) (r : Receiver) (l : BrokerLine) (s : Session) (b : Broker)
+pub resume_in_step : (largest : ℕ) (ids : List CopyId) (birth : ℕ) (ns : List ℕ) (limits : Capacity) (choice : MemberChoice) (now : ℕ) (rest : List Back) (r : Receiver) (l : BrokerLine) (s : Session) (b : Broker)
     → IsInStep largest ids birth ns r b → IsResuming r l s b → r.line.up ≡ answers (connect false) ∷ rest
     → IsInStep largest ids birth ns (reads_answer limits choice now l.number (connect false) r b) (after_answer limits choice now l.number (connect false) r b)
 resume_in_step largest ids birth ns limits choice now rest r l s b k a up =
@@ -139,7 +139,7 @@ module _ (client : List ℕ) (ns : List ℕ) (clean : Bool) (window aliases : �
       ((refl, inside), (tt, tt)) first
 
 -- a new, empty session is served
-pub clears_served : (limits : Limits) (choice : MemberChoice) (now : ℕ) (clean : Bool) (r : Receiver) (l : BrokerLine) (b : Broker) (front : List Deed) (closed ns : List ℕ) → Clears limits choice now clean r l b front closed
+pub clears_served : (limits : Capacity) (choice : MemberChoice) (now : ℕ) (clean : Bool) (r : Receiver) (l : BrokerLine) (b : Broker) (front : List Deed) (closed ns : List ℕ) → Clears limits choice now clean r l b front closed
     → AllByRecursion (IsFreeLine ns) (after_all front (heard_of now l.number b)).lines → ((n : ℕ) → is_one_of (Some n) ns ≡ true → n ≤ (after_all front (heard_of now l.number b)).given)
     → is_one_of (Some l.number) ns ≡ true
     → IsServed r.client (suc (after_all front (heard_of now l.number b)).records.births) ns (after_answer limits choice now l.number (connect clean) r b)
@@ -165,7 +165,7 @@ free_heard ns now n (l ∷ ls) h = by (nat_eq l.number n) (free_heard ns now n l
     by false g = (h.0, g)
 
 -- a first CONNECT leaves the receiver in step
-pub first_in_step : (largest : ℕ) (ids : List CopyId) (ns : List ℕ) (limits : Limits) (choice : MemberChoice) (now : ℕ) (clean : Bool) (rest : List Back) (r : Receiver) (l : BrokerLine) (b : Broker)
+pub first_in_step : (largest : ℕ) (ids : List CopyId) (ns : List ℕ) (limits : Capacity) (choice : MemberChoice) (now : ℕ) (clean : Bool) (rest : List Back) (r : Receiver) (l : BrokerLine) (b : Broker)
     → IsAwaiting largest ids ns r b → IsBeginning limits r l b → nat_lt (length b.records.sessions) limits.sessions ≡ true → r.line.up ≡ answers (connect clean) ∷ rest
     → IsInStep largest ids (suc b.records.births) ns (reads_answer limits choice now l.number (connect clean) r b) (after_answer limits choice now l.number (connect clean) r b)
 first_in_step largest ids ns limits choice now clean rest r l b k a room up =
@@ -212,7 +212,7 @@ own_free birth ns (l ∷ ls) own off = (λ inside. by l.session refl inside, own
         absurd cc
 
 -- a session that a Clean Start begins is served
-pub renewal_served : (birth : ℕ) (ns : List ℕ) (limits : Limits) (choice : MemberChoice) (now : ℕ) (r : Receiver) (l : BrokerLine) (s : Session) (b : Broker)
+pub renewal_served : (birth : ℕ) (ns : List ℕ) (limits : Capacity) (choice : MemberChoice) (now : ℕ) (r : Receiver) (l : BrokerLine) (s : Session) (b : Broker)
     → IsServed r.client birth ns b → is_one_of (Some l.number) ns ≡ true → IsRenewing limits r l s b
     → IsServed r.client (suc b.records.births) ns (after_answer limits choice now l.number (connect true) r b)
 renewal_served birth ns limits choice now r l s b v inside a =
@@ -238,7 +238,7 @@ renewal_served birth ns limits choice now r l s b v inside a =
     (clears_served limits choice now true r l b front (lines_left (line_of s.birth b)) ns x.clears free ended.given inside)
 
 -- a CONNECT with Clean Start leaves the receiver in step
-pub renewal_in_step : (largest : ℕ) (ids : List CopyId) (birth : ℕ) (ns : List ℕ) (limits : Limits) (choice : MemberChoice) (now : ℕ) (rest : List Back) (r : Receiver) (l : BrokerLine) (s : Session) (b : Broker)
+pub renewal_in_step : (largest : ℕ) (ids : List CopyId) (birth : ℕ) (ns : List ℕ) (limits : Capacity) (choice : MemberChoice) (now : ℕ) (rest : List Back) (r : Receiver) (l : BrokerLine) (s : Session) (b : Broker)
     → IsInStep largest ids birth ns r b → IsRenewing limits r l s b → r.line.up ≡ answers (connect true) ∷ rest
     → IsInStep largest ids (suc b.records.births) ns (reads_answer limits choice now l.number (connect true) r b) (after_answer limits choice now l.number (connect true) r b)
 renewal_in_step largest ids birth ns limits choice now rest r l s b k a up =

@@ -25,7 +25,7 @@ use Rattle.mqtt_rules.specs.step.Deeds.{Deed, Gone, Hear, On, Send, after_all, c
 use Rattle.mqtt_rules.specs.step.Packets as packets_of
 use Rattle.mqtt_rules.specs.step.State.{Line as BrokerLine, Broker, Env, MemberChoice, session_named}
 use Rattle.mqtt_rules.specs.step.Step.{Input, at_moment, deeds, env_of, stepped, with_moment}
-use Rattle.mqtt_rules.specs.declared.step.Limits.{Limits}
+use Rattle.mqtt_rules.specs.declared.step.Capacity.{Capacity}
 use Rattle.mqtt_topic.specs.names.Names.{is_empty}
 use Rattle.mqtt_world_laws.specs.receiver.Calls.{IsBeginning}
 use Rattle.mqtt_world_laws.specs.receiver.Handing.{IsRun, after_answer, reads_answer}
@@ -76,7 +76,7 @@ unless_true false xs e = absurd cc
 
 -- ---- the step
 
-module _ (limits : Limits) (choice : MemberChoice) (now : ℕ) (clean : Bool) (rest : List Back) (r : Receiver) (l : BrokerLine) (b : Broker) (a : IsBeginning limits r l b)
+module _ (limits : Capacity) (choice : MemberChoice) (now : ℕ) (clean : Bool) (rest : List Back) (r : Receiver) (l : BrokerLine) (b : Broker) (a : IsBeginning limits r l b)
     (apart : is_one_of r.line.old_number (l.number ∷ []) ≡ false) (full : nat_lt (length b.records.sessions) limits.sessions ≡ false) (up : r.line.up ≡ answers (connect clean) ∷ rest) where
   abbrev n : ℕ
   n = l.number
@@ -180,7 +180,7 @@ module _ (limits : Limits) (choice : MemberChoice) (now : ℕ) (clean : Bool) (r
     }
 
 -- a CONNECT that is refused leaves the receiver waiting
-pub refused_awaiting : (largest : ℕ) (ids : List CopyId) (ns : List ℕ) (limits : Limits) (choice : MemberChoice) (now : ℕ) (clean : Bool) (rest : List Back) (r : Receiver) (l : BrokerLine) (b : Broker)
+pub refused_awaiting : (largest : ℕ) (ids : List CopyId) (ns : List ℕ) (limits : Capacity) (choice : MemberChoice) (now : ℕ) (clean : Bool) (rest : List Back) (r : Receiver) (l : BrokerLine) (b : Broker)
     → IsAwaiting largest ids ns r b → IsBeginning limits r l b → is_one_of r.line.old_number (l.number ∷ []) ≡ false → nat_lt (length b.records.sessions) limits.sessions ≡ false
     → r.line.up ≡ answers (connect clean) ∷ rest
     → IsAwaiting largest ids ns (reads_answer limits choice now l.number (connect clean) r b) (after_answer limits choice now l.number (connect clean) r b)

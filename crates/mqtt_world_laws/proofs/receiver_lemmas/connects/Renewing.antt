@@ -27,7 +27,7 @@ use Rattle.mqtt_rules.specs.step.Connect.{clear, connect_by, joins, joins_after,
 use Rattle.mqtt_rules.specs.step.Deeds.{At, Close, Deed, Finish, Hear, Leave, On, after, after_all, closing, only_if, output, whose, without_place}
 use Rattle.mqtt_rules.specs.step.State.{Line as BrokerLine, Broker, Env, MemberChoice, is_of, line_of, session_at, session_named}
 use Rattle.mqtt_rules.specs.step.Step.{Input, at_moment, deeds, env_of}
-use Rattle.mqtt_rules.specs.declared.step.Limits.{Limits}
+use Rattle.mqtt_rules.specs.declared.step.Capacity.{Capacity}
 use Rattle.mqtt_topic.specs.names.Names.{is_empty}
 use Rattle.mqtt_world_laws.specs.receiver.Calls.{IsRenewing}
 use Rattle.mqtt_world_laws.specs.receiver.Entering.{Receives}
@@ -172,7 +172,7 @@ ended_closes o s now ds none =
 -- ---- the step
 
 -- what a Clean Start prepares: the line that the session stood on is dropped, its copies end, and its place is free
-pub record Renews (limits : Limits) (choice : MemberChoice) (now : ℕ) (r : Receiver) (l : BrokerLine) (s : Session) (b : Broker) : Type 0 where
+pub record Renews (limits : Capacity) (choice : MemberChoice) (now : ℕ) (r : Receiver) (l : BrokerLine) (s : Session) (b : Broker) : Type 0 where
   pub its : Option BrokerLine  -- the line that the session is connected on, as it stands when the line has been heard of
   pub taken : IsTaken its s.birth l.number
   pub same : lines_left its ≡ lines_left (line_of s.birth b)
@@ -180,7 +180,7 @@ pub record Renews (limits : Limits) (choice : MemberChoice) (now : ℕ) (r : Rec
   pub births_are : (after_all (ended_by its s (heard_of now l.number b).now) (heard_of now l.number b)).records.births ≡ b.records.births
 
 -- a Clean Start leaves a new, empty session on its line
-pub renewed_clears : (limits : Limits) (choice : MemberChoice) (now : ℕ) (r : Receiver) (l : BrokerLine) (s : Session) (b : Broker) → IsRenewing limits r l s b → Renews limits choice now r l s b
+pub renewed_clears : (limits : Capacity) (choice : MemberChoice) (now : ℕ) (r : Receiver) (l : BrokerLine) (s : Session) (b : Broker) → IsRenewing limits r l s b → Renews limits choice now r l s b
 renewed_clears limits choice now r l s b a =
     let n = l.number in
     let first = at_moment now b in
@@ -241,7 +241,7 @@ renewed_clears limits choice now r l s b a =
     }
 
 -- what becomes of another line
-pub renewed_beside : (number : Numbering) (ids : List CopyId) (limits : Limits) (choice : MemberChoice) (now : ℕ) (r : Receiver) (l : BrokerLine) (s : Session) (b : Broker) → Renews limits choice now r l s b
+pub renewed_beside : (number : Numbering) (ids : List CopyId) (limits : Capacity) (choice : MemberChoice) (now : ℕ) (r : Receiver) (l : BrokerLine) (s : Session) (b : Broker) → Renews limits choice now r l s b
     → (m : ℕ) → nat_eq l.number m ≡ false → Beside number ids limits choice now (Input l.number (wire_back r.client r.window r.aliases (answers (connect true)))) m b (is_one_of (Some m) (lines_left (line_of s.birth b)))
 renewed_beside number ids limits choice now r l s b x m other =
     let n = l.number in
@@ -259,7 +259,7 @@ renewed_beside number ids limits choice now r l s b x m other =
     leaves_aside y (e ∷ es) = (tt, leaves_aside y es)
 
 -- each copy that stood ends with its session
-pub renewal_is_run : (number : Numbering) (largest : ℕ) (copies : List Lot) (limits : Limits) (choice : MemberChoice) (now : ℕ) (rest : List Back) (r : Receiver) (l : BrokerLine) (s : Session) (b : Broker)
+pub renewal_is_run : (number : Numbering) (largest : ℕ) (copies : List Lot) (limits : Capacity) (choice : MemberChoice) (now : ℕ) (rest : List Back) (r : Receiver) (l : BrokerLine) (s : Session) (b : Broker)
     → IsRun number largest copies r b → IsRenewing limits r l s b → r.line.up ≡ answers (connect true) ∷ rest
     → IsRun number largest (map cut copies) (reads_answer limits choice now l.number (connect true) r b) (after_answer limits choice now l.number (connect true) r b)
 renewal_is_run number largest copies limits choice now rest r l s b h a up =
@@ -271,14 +271,14 @@ renewal_is_run number largest copies limits choice now rest r l s b h a up =
     ∙ ap (λ (z : Bool). connects z true false (filter_map answered rest) w) stands)
 
 -- a Clean Start goes on as a new run of the hop
-pub renewal_runs : (number : Numbering) (largest : ℕ) (copies : List Lot) (limits : Limits) (choice : MemberChoice) (now : ℕ) (rest : List Back) (r : Receiver) (l : BrokerLine) (s : Session) (b : Broker)
+pub renewal_runs : (number : Numbering) (largest : ℕ) (copies : List Lot) (limits : Capacity) (choice : MemberChoice) (now : ℕ) (rest : List Back) (r : Receiver) (l : BrokerLine) (s : Session) (b : Broker)
     → IsRun number largest copies r b → IsRenewing limits r l s b → r.line.up ≡ answers (connect true) ∷ rest
     → RunsOn number largest copies (reads_answer limits choice now l.number (connect true) r b) (after_answer limits choice now l.number (connect true) r b)
 renewal_runs number largest copies limits choice now rest r l s b h a up =
     record { after = map cut copies; same = cut_ids copies; run_is = renewal_is_run number largest copies limits choice now rest r l s b h a up }
 
 -- and it may receive more
-pub renewal_receives : (number : Numbering) (largest : ℕ) (copies : List Lot) (limits : Limits) (choice : MemberChoice) (now : ℕ) (rest : List Back) (r : Receiver) (l : BrokerLine) (s : Session) (b : Broker)
+pub renewal_receives : (number : Numbering) (largest : ℕ) (copies : List Lot) (limits : Capacity) (choice : MemberChoice) (now : ℕ) (rest : List Back) (r : Receiver) (l : BrokerLine) (s : Session) (b : Broker)
     → IsRun number largest copies r b → IsRenewing limits r l s b → r.line.up ≡ answers (connect true) ∷ rest
     → Receives (reads_answer limits choice now l.number (connect true) r b) (after_answer limits choice now l.number (connect true) r b)
 renewal_receives number largest copies limits choice now rest r l s b h a up =

@@ -27,7 +27,7 @@ use Rattle.mqtt_rules.specs.step.Closing.{end_session, has_due_end, has_due_will
 use Rattle.mqtt_rules.specs.step.Deeds.{Act, At, Close, Deed, after, after_all, always, of_session, only_if, part_rows_of, rows_of_all, whose, with_session}
 use Rattle.mqtt_rules.specs.step.State.{Broker, Env, MemberChoice, session_at, session_named}
 use Rattle.mqtt_rules.specs.step.Step.{connected_in, env_of, opened, opening, settles, settles_all, shuts, shuts_all, unopened}
-use Rattle.mqtt_rules.specs.declared.step.Limits.{Limits}
+use Rattle.mqtt_rules.specs.declared.step.Capacity.{Capacity}
 use Rattle.mqtt_world_laws.specs.receiver.Entering.{IsReceiving}
 use Rattle.mqtt_world_laws.specs.receiver.Handing.{IsRun, RunsOn}
 use Rattle.mqtt_world_laws.specs.receiver.Restarts.{reopened}
@@ -203,7 +203,7 @@ module _ (largest : ℕ) (env : Env) (small : env.limits.queue ≤ QUEUE_LIMIT) 
 -- ---- the restart
 
 -- a restart leaves the hop going on
-pub restart_goes_on : (largest : ℕ) (ids : List CopyId) (limits : Limits) (choice : MemberChoice) (now birth : ℕ) (ns : List ℕ) (r : Receiver) (b : Broker)
+pub restart_goes_on : (largest : ℕ) (ids : List CopyId) (limits : Capacity) (choice : MemberChoice) (now birth : ℕ) (ns : List ℕ) (r : Receiver) (b : Broker)
     → RunsFor largest ids birth r b → IsServed r.client birth ns b → IsTidy limits b → starts_with nat_eq r.client auto ≡ false
     → GoesOn largest ids birth [] b.records.publications (receiver_restarted r) (reopened limits choice now b)
 restart_goes_on largest ids limits choice now birth ns r b f v tidy plain =
@@ -238,13 +238,13 @@ no_session : (o : Option Session) → is_some o ≡ false → o ≡ None
 no_session None h = refl
 no_session (Some s) h = absurd cc
 
-none_opened : (limits : Limits) (choice : MemberChoice) (now : ℕ) (client : List ℕ) (b : Broker) → session_named client b.records ≡ None → session_named client (opened limits choice now b.records).records ≡ None
+none_opened : (limits : Capacity) (choice : MemberChoice) (now : ℕ) (client : List ℕ) (b : Broker) → session_named client b.records ≡ None → session_named client (opened limits choice now b.records).records ≡ None
 none_opened limits choice now client b none =
     let same = ap (λ (w : InboundHop). w.stands) (empty_restart_is_hop limits choice now (new_publisher client) b [] none) in
     no_session (session_named client (opened limits choice now b.records).records) (same ∙ ap is_some none)
 
 -- also if the receiver has no session
-pub restart_without : (number : Numbering) (largest : ℕ) (copies : List Lot) (limits : Limits) (choice : MemberChoice) (now : ℕ) (r : Receiver) (b : Broker)
+pub restart_without : (number : Numbering) (largest : ℕ) (copies : List Lot) (limits : Capacity) (choice : MemberChoice) (now : ℕ) (r : Receiver) (b : Broker)
     → IsRun number largest copies r b → session_named r.client b.records ≡ None
     → RunsOn number largest copies (receiver_restarted r) (reopened limits choice now b) × (session_named r.client (reopened limits choice now b).records ≡ None)
 restart_without number largest copies limits choice now r b h none =

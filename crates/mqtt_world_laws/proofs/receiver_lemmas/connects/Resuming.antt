@@ -44,7 +44,7 @@ use Rattle.mqtt_records.specs.messages.PassedOn.{property}
 use Rattle.mqtt_rules.specs.step.Packets as packets_of
 use Rattle.mqtt_rules.specs.step.State.{Line as BrokerLine, Broker, Env, MemberChoice, is_of, line_at, line_of, queue_on, session_at, session_named}
 use Rattle.mqtt_rules.specs.step.Step.{Call, Input, at_moment, deeds, env_of, on_packet, stepped}
-use Rattle.mqtt_rules.specs.declared.step.Limits.{Limits}
+use Rattle.mqtt_rules.specs.declared.step.Capacity.{Capacity}
 use Rattle.mqtt_world_laws.specs.receiver.Calls.{IsOnlyAt, IsResuming}
 use Rattle.mqtt_world_laws.specs.receiver.Entering.{AreKnown, Receives}
 use Rattle.mqtt_world_laws.specs.receiver.Handing.{IsRun, RunsOn, after_answer, reads_answer}
@@ -289,7 +289,7 @@ connect_is o env l client window aliases s b e t k =
     ∙ ap (λ (ds : List Deed). left_by o s b.now ++ ds) (resume_is l false client window aliases b.now (taken_from o b.now s))))
 
 -- the call of a CONNECT is to hear it and to connect
-pub call_is : (limits : Limits) (choice : MemberChoice) (now : ℕ) (clean : Bool) (client : List ℕ) (window aliases : ℕ) (l : BrokerLine) (b : Broker) → line_at l.number b ≡ Some l → l.session ≡ None
+pub call_is : (limits : Capacity) (choice : MemberChoice) (now : ℕ) (clean : Bool) (client : List ℕ) (window aliases : ℕ) (l : BrokerLine) (b : Broker) → line_at l.number b ≡ Some l → l.session ≡ None
     → deeds limits choice now (Input l.number (Connect (greeting clean client window aliases))) b
     ≡ On l.number Hear ∷ (on_connect (env_of limits choice b) l (greeting clean client window aliases) (heard_of now l.number b) ++ [])
 call_is limits choice now clean client window aliases l b line waits =
@@ -334,7 +334,7 @@ session_resumed x r at =
 -- ---- another line, which is told and closed if it is the one that the session was taken from
 
 -- what a CONNECT makes of another line: it is closed with DISCONNECT, or left alone, and no copy goes out there
-pub record Beside (number : Numbering) (ids : List CopyId) (limits : Limits) (choice : MemberChoice) (now : ℕ) (call : Call) (m : ℕ) (b : Broker) (shut : Bool) : Type 0 where
+pub record Beside (number : Numbering) (ids : List CopyId) (limits : Capacity) (choice : MemberChoice) (now : ℕ) (call : Call) (m : ℕ) (b : Broker) (shut : Bool) : Type 0 where
   pub told : filter_map (heard_in number) (sent_to (Some m) (stepped limits choice now call b) (filter_map output (deeds limits choice now call b))) ≡ cond shut (disconnect ∷ []) []
   pub tagged : AllByRecursion (IsTagged number ids) (sent_to (Some m) (stepped limits choice now call b) (filter_map output (deeds limits choice now call b)))
   pub line_is : session_on m (after_all (deeds limits choice now call b) (at_moment now b)).lines ≡ cond shut None (session_on m b.lines)
@@ -363,7 +363,7 @@ left_on (Some x) s m b = elim (cases_Bool (nat_eq x.number m)) [
 ]
 
 -- it is so if the session is taken over first, and nothing else is about that line
-pub left_beside : (number : Numbering) (ids : List CopyId) (limits : Limits) (choice : MemberChoice) (now : ℕ) (call : Call) (n : ℕ) (o : Option BrokerLine) (s : Session) (rest : List Deed) (m : ℕ) (b : Broker) (shut : Bool)
+pub left_beside : (number : Numbering) (ids : List CopyId) (limits : Capacity) (choice : MemberChoice) (now : ℕ) (call : Call) (n : ℕ) (o : Option BrokerLine) (s : Session) (rest : List Deed) (m : ℕ) (b : Broker) (shut : Bool)
     → deeds limits choice now call b ≡ On n Hear ∷ (left_by o s (heard_of now n b).now ++ rest) → AllByRecursion (IsAsideOf m) rest → is_one_of (Some m) (lines_left o) ≡ shut
     → Beside number ids limits choice now call m b shut
 left_beside number ids limits choice now call n o s rest m b shut is aside alike =
@@ -386,7 +386,7 @@ left_beside number ids limits choice now call n o s rest m b shut is aside alike
     })
 
 -- what the call makes of a session, wherever the receiver is
-pub record Takes (number : Numbering) (copies2 : List Lot) (ids : List CopyId) (limits : Limits) (choice : MemberChoice) (now : ℕ) (call : Call) (name : List ℕ) (n birth : ℕ) (ns : List ℕ) (b : Broker) : Type 0 where
+pub record Takes (number : Numbering) (copies2 : List Lot) (ids : List CopyId) (limits : Capacity) (choice : MemberChoice) (now : ℕ) (call : Call) (name : List ℕ) (n birth : ℕ) (ns : List ℕ) (b : Broker) : Type 0 where
   pub session : Session
   pub found : session_at birth (after_all (deeds limits choice now call b) (at_moment now b)).records ≡ Some session
   pub client : session.client ≡ name
@@ -399,7 +399,7 @@ pub record Takes (number : Numbering) (copies2 : List Lot) (ids : List CopyId) (
 
 -- ---- the step
 
-module _ (number : Numbering) (largest : ℕ) (copies : List Lot) (limits : Limits) (choice : MemberChoice) (now : ℕ) (rest : List Back) (r : Receiver)
+module _ (number : Numbering) (largest : ℕ) (copies : List Lot) (limits : Capacity) (choice : MemberChoice) (now : ℕ) (rest : List Back) (r : Receiver)
     (l : BrokerLine) (s : Session) (b : Broker) (queued : AreQueued copies (session_named r.client b.records) b) (a : IsResuming r l s b) (up : r.line.up ≡ answers (connect false) ∷ rest) where
   abbrev n : ℕ
   n = l.number
@@ -629,20 +629,20 @@ module _ (number : Numbering) (largest : ℕ) (copies : List Lot) (limits : Limi
       resumes_receives heard_line.0 heard_line.1 heard_line.2 heard_line.3
 
 -- with the copies as they are on a new connection
-pub connect_is_run : (number : Numbering) (largest : ℕ) (copies : List Lot) (limits : Limits) (choice : MemberChoice) (now : ℕ) (rest : List Back) (r : Receiver) (l : BrokerLine) (s : Session) (b : Broker)
+pub connect_is_run : (number : Numbering) (largest : ℕ) (copies : List Lot) (limits : Capacity) (choice : MemberChoice) (now : ℕ) (rest : List Back) (r : Receiver) (l : BrokerLine) (s : Session) (b : Broker)
     → IsRun number largest copies r b → IsResuming r l s b → r.line.up ≡ answers (connect false) ∷ rest
     → IsRun number largest (map renewed copies) (reads_answer limits choice now l.number (connect false) r b) (after_answer limits choice now l.number (connect false) r b)
 connect_is_run number largest copies limits choice now rest r l s b h a up = resumed_is number largest copies limits choice now rest r l s b h.queue_is a up h
 
 -- a CONNECT to a session that stands goes on with the hop
-pub connect_runs : (number : Numbering) (largest : ℕ) (copies : List Lot) (limits : Limits) (choice : MemberChoice) (now : ℕ) (rest : List Back) (r : Receiver) (l : BrokerLine) (s : Session) (b : Broker)
+pub connect_runs : (number : Numbering) (largest : ℕ) (copies : List Lot) (limits : Capacity) (choice : MemberChoice) (now : ℕ) (rest : List Back) (r : Receiver) (l : BrokerLine) (s : Session) (b : Broker)
     → IsRun number largest copies r b → IsResuming r l s b → r.line.up ≡ answers (connect false) ∷ rest
     → RunsOn number largest copies (reads_answer limits choice now l.number (connect false) r b) (after_answer limits choice now l.number (connect false) r b)
 connect_runs number largest copies limits choice now rest r l s b h a up =
     record { after = map renewed copies; same = renewed_ids copies; run_is = connect_is_run number largest copies limits choice now rest r l s b h a up }
 
 -- and its session may receive more
-pub connect_receives : (number : Numbering) (largest : ℕ) (copies : List Lot) (limits : Limits) (choice : MemberChoice) (now : ℕ) (rest : List Back) (r : Receiver) (l : BrokerLine) (s : Session) (b : Broker)
+pub connect_receives : (number : Numbering) (largest : ℕ) (copies : List Lot) (limits : Capacity) (choice : MemberChoice) (now : ℕ) (rest : List Back) (r : Receiver) (l : BrokerLine) (s : Session) (b : Broker)
     → IsRun number largest copies r b → IsResuming r l s b → r.line.up ≡ answers (connect false) ∷ rest
     → Receives (reads_answer limits choice now l.number (connect false) r b) (after_answer limits choice now l.number (connect false) r b)
 connect_receives number largest copies limits choice now rest r l s b h a up = resumed_receives number largest copies limits choice now rest r l s b h.queue_is a up

@@ -17,7 +17,7 @@ use Rattle.mqtt_rules.proofs.step_lemmas.numbers.NumberSteps.{opening_fell, step
 use Rattle.mqtt_rules.proofs.step_lemmas.order.OrderedSteps.{opening-ordered, step-ordered}
 use Rattle.mqtt_rules.specs.step.State.{Broker, MemberChoice}
 use Rattle.mqtt_rules.specs.step.Step.{Call, NewLine, Outcome, at_moment, can_link, opened, stepped, told}
-use Rattle.mqtt_rules.specs.declared.step.Limits.{Limits}
+use Rattle.mqtt_rules.specs.declared.step.Capacity.{Capacity}
 use Rattle.mqtt_rules.specs.telling.Meaning.{after_reading, after_reading_all, alias_on, on_line}
 use Rattle.mqtt_world_laws.proofs.acceptance_lemmas.copies.Differ.{AreApart, differ_join}
 use Rattle.mqtt_world_laws.specs.receiver.Own.{IsInStep}
@@ -30,14 +30,14 @@ use Rattle.mqtt_world_laws.proofs.receiver_lemmas.connects.Restarting.{restart_g
 -- ---- the tables stay in order
 
 -- a step leaves a tidy broker tidy
-pub step_tidy : (limits : Limits) (choice : MemberChoice) (now : ℕ) (call : Call) (b : Broker) → IsTidy limits b → IsTidy limits (stepped limits choice now call b)
+pub step_tidy : (limits : Capacity) (choice : MemberChoice) (now : ℕ) (call : Call) (b : Broker) → IsTidy limits b → IsTidy limits (stepped limits choice now call b)
 step_tidy limits choice now call b t = record {
   ordered = step-ordered limits choice now call b t.ordered;
   within = t.within;
 }
 
 -- so does a broker that opens again
-pub opening_tidy : (limits : Limits) (choice : MemberChoice) (now : ℕ) (b : Broker) → IsTidy limits b → IsTidy limits (reopened limits choice now b)
+pub opening_tidy : (limits : Capacity) (choice : MemberChoice) (now : ℕ) (b : Broker) → IsTidy limits b → IsTidy limits (reopened limits choice now b)
 opening_tidy limits choice now b t = record {
   ordered = opening-ordered limits choice now b.records t.ordered;
   within = t.within;
@@ -97,7 +97,7 @@ told_restarts b out r =
 -- ---- after the commit of a call of others
 
 -- a step whose answers are lost leaves the hop going on
-pub stopped_goes_on : (largest : ℕ) (ids : List CopyId) (limits : Limits) (choice : MemberChoice) (now : ℕ) (call : Call) (birth : ℕ) (ns : List ℕ) (r : Receiver) (b : Broker)
+pub stopped_goes_on : (largest : ℕ) (ids : List CopyId) (limits : Capacity) (choice : MemberChoice) (now : ℕ) (call : Call) (birth : ℕ) (ns : List ℕ) (r : Receiver) (b : Broker)
     → RunsFor largest ids birth r b → IsServed r.client birth ns b → HasLines ns r → IsTidy limits b → starts_with nat_eq r.client auto ≡ false
     → IsCallOfOthers r.client ns call (at_moment now b)
     → GoesOn largest ids birth [] b.records.publications (receiver_restarted r) (stopped_after limits choice now call b)
@@ -151,8 +151,8 @@ receivers_after set a w = called_receivers set (call_of set a w) (before set a w
 
 -- ---- before the commit, nothing is stored
 
-linked_records : (limits : Limits) (choice : MemberChoice) (now : ℕ) (b : Broker) → (stepped limits choice now NewLine b).records ≡ b.records
-linked_records limits choice now b = elim (cases_Bool (can_link (at_moment now b))) [
+linked_records : (limits : Capacity) (choice : MemberChoice) (now : ℕ) (b : Broker) → (stepped limits choice now NewLine b).records ≡ b.records
+linked_records limits choice now b = elim (cases_Bool (can_link limits (at_moment now b))) [
   | inl can ↦ rw can refl
   | inr full ↦ rw full refl
 ]
@@ -191,7 +191,7 @@ alike_before set a w =
 -- ---- what a receiver sees if the call was for itself
 
 -- a stop in a step on its own line leaves the hop going on
-pub own_stop_goes_on : (largest : ℕ) (ids : List CopyId) (limits : Limits) (choice : MemberChoice) (now : ℕ) (call : Call) (birth : ℕ) (ns : List ℕ) (q : Receiver) (b : Broker)
+pub own_stop_goes_on : (largest : ℕ) (ids : List CopyId) (limits : Capacity) (choice : MemberChoice) (now : ℕ) (call : Call) (birth : ℕ) (ns : List ℕ) (q : Receiver) (b : Broker)
     → IsInStep largest ids birth ns q (stepped limits choice now call b) → IsTidy limits b → starts_with nat_eq q.client auto ≡ false
     → GoesOn largest ids birth [] b.records.publications (receiver_restarted q) (stopped_after limits choice now call b)
 own_stop_goes_on largest ids limits choice now call birth ns q b stays tidy plain =

@@ -20,7 +20,7 @@ use Rattle.mqtt_rules.proofs.step_lemmas.flight.FlightRows.{all_at, all_changed,
 use Rattle.mqtt_rules.specs.step.Deeds.{At, Count, Deed, Enter, Leave, Mark, On, Send, Subscribe, after, after_all, new_entry, part_rows_of, rows_of_all}
 use Rattle.mqtt_rules.specs.step.State.{Broker, MemberChoice, queued_copy, session_at, session_named}
 use Rattle.mqtt_rules.specs.step.Step.{Call, at_moment, deeds, stepped}
-use Rattle.mqtt_rules.specs.declared.step.Limits.{Limits}
+use Rattle.mqtt_rules.specs.declared.step.Capacity.{Capacity}
 use Rattle.mqtt_rules.specs.whole.Whole.{AreNoLarger}
 use Rattle.mqtt_world_model.specs.model.Ends.{Receiver}
 use Rattle.mqtt_world_model.specs.model.Hops.{IsIts, IsOnly, IsOurs}
@@ -117,7 +117,7 @@ module _ (largest birth : ℕ) where
   deeds_fit (d ∷ ds) b q h = deeds_fit ds (after d b) q.1 (deed_fits d b q.0 h)
 
   -- after a call of such deeds the queue's copies are no larger still
-  pub call_fits : (limits : Limits) (choice : MemberChoice) (now : ℕ) (call : Call) (b : Broker) → AllByRecursion (IsFitting largest) (deeds limits choice now call b) → QueueFits largest birth b → QueueFits largest birth (stepped limits choice now call b)
+  pub call_fits : (limits : Capacity) (choice : MemberChoice) (now : ℕ) (call : Call) (b : Broker) → AllByRecursion (IsFitting largest) (deeds limits choice now call b) → QueueFits largest birth b → QueueFits largest birth (stepped limits choice now call b)
   call_fits limits choice now call b q h x e =
       let first = at_moment now b in
       let ds = deeds limits choice now call b in
@@ -125,7 +125,7 @@ module _ (largest birth : ℕ) where
       deeds_fit ds first q h x (ap (row_at birth_of birth) (sym (done_sessions (rows_of_all ds first.records) last)) ∙ e)
 
   -- so it is with the deeds of turns
-  pub turns_fit : (limits : Limits) (choice : MemberChoice) (now : ℕ) (call : Call) (b : Broker) → AllByRecursion IsOfTurn (deeds limits choice now call b) → QueueFits largest birth b → QueueFits largest birth (stepped limits choice now call b)
+  pub turns_fit : (limits : Capacity) (choice : MemberChoice) (now : ℕ) (call : Call) (b : Broker) → AllByRecursion IsOfTurn (deeds limits choice now call b) → QueueFits largest birth b → QueueFits largest birth (stepped limits choice now call b)
   turns_fit limits choice now call b q h = call_fits limits choice now call b (each_more IsOfTurn (IsFitting largest) (turn_fits largest) (deeds limits choice now call b) q) h
 
 -- ---- the copies that a hop sees

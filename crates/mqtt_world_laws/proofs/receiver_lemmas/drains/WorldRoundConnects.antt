@@ -26,7 +26,7 @@ use Rattle.mqtt_rules.proofs.step_lemmas.order.OrderedSteps.{step-ordered}
 use Rattle.mqtt_rules.specs.step.Deeds.{Deed, with_line}
 use Rattle.mqtt_rules.specs.step.State.{Line as BrokerLine, Broker, MemberChoice, capped, line_at, session_named}
 use Rattle.mqtt_rules.specs.step.Step.{Call, Input, Pump, at_moment, deeds, deeds_of, done, env_of, on_pump, outcome_of, stepped, told}
-use Rattle.mqtt_rules.specs.declared.step.Limits.{Limits}
+use Rattle.mqtt_rules.specs.declared.step.Capacity.{Capacity}
 use Rattle.mqtt_world_laws.proofs.acceptance_lemmas.publishers.Ends.{named_receiver}
 use Rattle.mqtt_world_laws.proofs.acceptance_lemmas.copies.Steady.{steady_step}
 use Rattle.mqtt_world_laws.specs.receiver.Calls.{IsResuming}
@@ -61,7 +61,7 @@ greeted_goes n birth window b g =
 
 -- ---- a pump of a line that waits
 
-pump_none : (limits : Limits) (choice : MemberChoice) (now : ℕ) (l : BrokerLine) (b : Broker) → line_at l.number b ≡ Some l → l.session ≡ None → deeds limits choice now (Pump l.number) b ≡ []
+pump_none : (limits : Capacity) (choice : MemberChoice) (now : ℕ) (l : BrokerLine) (b : Broker) → line_at l.number b ≡ Some l → l.session ≡ None → deeds limits choice now (Pump l.number) b ≡ []
 pump_none limits choice now l b line waits =
     ap (λ (o : Option BrokerLine). with_line o (λ (x : BrokerLine). on_pump x x.session) (at_moment now b)) line ∙ ap (λ (o : Option ℕ). on_pump l o (at_moment now b)) waits
 
@@ -84,7 +84,7 @@ untold_same call b r =
 
 -- ---- the first round
 
-module _ (limits : Limits) (choice : MemberChoice) (clean : Bool) (client : List ℕ) (r : Receiver) (l : BrokerLine) (w : World) (j : IsJoining limits choice clean client r l w)
+module _ (limits : Capacity) (choice : MemberChoice) (clean : Bool) (client : List ℕ) (r : Receiver) (l : BrokerLine) (w : World) (j : IsJoining limits choice clean client r l w)
     (number_is : r.line.number ≡ Some l.number) (line : line_at l.number w.broker ≡ Some l) (waits : l.session ≡ None) where
   abbrev n : ℕ
   n = l.number
@@ -196,7 +196,7 @@ module _ (limits : Limits) (choice : MemberChoice) (clean : Bool) (client : List
       subst (DrainsFrom number r.window ids birth ns client copies) (sym round_came) z
 
 -- a round on a line that begins with a resumption is one of the hop
-pub resumed_round : (number : Numbering) (ids : List CopyId) (birth : ℕ) (ns : List ℕ) (limits : Limits) (choice : MemberChoice) (client : List ℕ) (copies : List Lot) (r : Receiver) (l : BrokerLine) (s : Session) (w : World)
+pub resumed_round : (number : Numbering) (ids : List CopyId) (birth : ℕ) (ns : List ℕ) (limits : Capacity) (choice : MemberChoice) (client : List ℕ) (copies : List Lot) (r : Receiver) (l : BrokerLine) (s : Session) (w : World)
     → MayResume limits choice ids birth ns client r l s w → IsRun number any_size copies r w.broker
     → DrainsFrom number r.window ids birth ns client (map renewed copies) (after_round limits choice client w)
 resumed_round number ids birth ns limits choice client copies r l s w m h =
@@ -212,7 +212,7 @@ resumed_round number ids birth ns limits choice client copies r l s w m h =
     (renewed_fit any_size copies (lots_of any_size (went_in s.birth b) copies s.queue (subst (λ (o : Option Session). AreQueued copies o b) own h.queue_is) (j.fits s (ap (λ (c : List ℕ). session_named c b.records) (sym name) ∙ own))))
 
 -- so is one that begins with a Clean Start
-pub renewed_round : (number : Numbering) (ids : List CopyId) (birth : ℕ) (ns : List ℕ) (limits : Limits) (choice : MemberChoice) (client : List ℕ) (copies : List Lot) (r : Receiver) (l : BrokerLine) (s : Session) (w : World)
+pub renewed_round : (number : Numbering) (ids : List CopyId) (birth : ℕ) (ns : List ℕ) (limits : Capacity) (choice : MemberChoice) (client : List ℕ) (copies : List Lot) (r : Receiver) (l : BrokerLine) (s : Session) (w : World)
     → MayRenew limits choice ids birth ns client r l s w → IsRun number any_size copies r w.broker
     → DrainsFrom number r.window ids (suc w.broker.records.births) ns client (map cut copies) (after_round limits choice client w)
 renewed_round number ids birth ns limits choice client copies r l s w m h =
@@ -242,7 +242,7 @@ left_before number largest client copies r l s w named a h =
 
 -- ---- the drain
 
-module _ (ids : List CopyId) (birth : ℕ) (ns : List ℕ) (limits : Limits) (choice : MemberChoice) (client : List ℕ) (r : Receiver) (l : BrokerLine) (s : Session) (w : World) (differ : AllDiffer ids)
+module _ (ids : List CopyId) (birth : ℕ) (ns : List ℕ) (limits : Capacity) (choice : MemberChoice) (client : List ℕ) (r : Receiver) (l : BrokerLine) (s : Session) (w : World) (differ : AllDiffer ids)
     (m : MayResume limits choice ids birth ns client r l s w) where
   abbrev x : RunsWithAll (place_of ids) any_size ids birth r w.broker
   x = m.in_step.runs (place_of ids) (places_number ids differ)
@@ -265,12 +265,12 @@ module _ (ids : List CopyId) (birth : ℕ) (ns : List ℕ) (limits : Limits) (ch
       drain_over_later any_size r.window ids birth ns limits choice client most after_it.receiver w room differ after_it.may (subst (λ (k : ℕ). enough_rounds k ≤ most) (sym as_many) enough)
 
 -- a drain behind a CONNECT ends within its bound
-pub connect_is_within : (ids : List CopyId) (birth : ℕ) (ns : List ℕ) (limits : Limits) (choice : MemberChoice) (client : List ℕ) (most : ℕ) (r : Receiver) (l : BrokerLine) (s : Session) (w : World) → 1 ≤ r.window → AllDiffer ids
+pub connect_is_within : (ids : List CopyId) (birth : ℕ) (ns : List ℕ) (limits : Capacity) (choice : MemberChoice) (client : List ℕ) (most : ℕ) (r : Receiver) (l : BrokerLine) (s : Session) (w : World) → 1 ≤ r.window → AllDiffer ids
     → MayResume limits choice ids birth ns client r l s w → rounds_taken limits choice client most w ≤ enough_rounds (copies_left client w)
 connect_is_within ids birth ns limits choice client most r l s w room differ m = resumed_within ids birth ns limits choice client r l s w differ m most room
 
 -- and is over then
-pub connect_is_over : (ids : List CopyId) (birth : ℕ) (ns : List ℕ) (limits : Limits) (choice : MemberChoice) (client : List ℕ) (most : ℕ) (r : Receiver) (l : BrokerLine) (s : Session) (w : World) → 1 ≤ r.window → AllDiffer ids
+pub connect_is_over : (ids : List CopyId) (birth : ℕ) (ns : List ℕ) (limits : Capacity) (choice : MemberChoice) (client : List ℕ) (most : ℕ) (r : Receiver) (l : BrokerLine) (s : Session) (w : World) → 1 ≤ r.window → AllDiffer ids
     → MayResume limits choice ids birth ns client r l s w → enough_rounds (copies_left client w) ≤ most → is_over client (drained limits choice client most w) ≡ true
 connect_is_over ids birth ns limits choice client most r l s w room differ m enough = resumed_over ids birth ns limits choice client r l s w differ m most room enough
 
@@ -285,7 +285,7 @@ renewed_from largest moments (Some (past x e m)) (Some (standing f k)) a = a
 renewed_from largest moments (Some (past x e m)) (Some (past y f k)) a = a
 
 -- with an empty queue
-pub connect_is_drained : (number : Numbering) (ids : List CopyId) (birth : ℕ) (ns : List ℕ) (limits : Limits) (choice : MemberChoice) (client : List ℕ) (copies : List Lot) (most : ℕ) (r : Receiver) (l : BrokerLine) (s : Session) (w : World)
+pub connect_is_drained : (number : Numbering) (ids : List CopyId) (birth : ℕ) (ns : List ℕ) (limits : Capacity) (choice : MemberChoice) (client : List ℕ) (copies : List Lot) (most : ℕ) (r : Receiver) (l : BrokerLine) (s : Session) (w : World)
     → 1 ≤ r.window → MayResume limits choice ids birth ns client r l s w → map id_of copies ≡ ids → IsRun number any_size copies r w.broker → is_over client w ≡ false
     → IsDrained number any_size r.window ids birth ns client (moment_of w) copies (drained limits choice client (suc most) w)
 connect_is_drained number ids birth ns limits choice client copies most r l s w room m same h o =
@@ -307,7 +307,7 @@ connect_is_drained number ids birth ns limits choice client copies most r l s w 
 
 -- ---- a drain that is over
 
-module _ (limits : Limits) (choice : MemberChoice) (client : List ℕ) (v : World) (over : is_over client v ≡ true) where
+module _ (limits : Capacity) (choice : MemberChoice) (client : List ℕ) (v : World) (over : is_over client v ≡ true) where
   over_rounds : (most : ℕ) → rounds_taken limits choice client most v ≡ 0
   over_rounds zero = refl
   over_rounds (suc more) = rw over refl
@@ -320,7 +320,7 @@ none_over : (client : List ℕ) (w : World) → copies_left client w ≡ 0 → i
 none_over client w none = ap (λ (k : ℕ). is_none_left k || not (line_stands (receiver_named client w) w)) none
 
 -- so is one behind a Clean Start
-pub renewal_is_over : (ids : List CopyId) (birth : ℕ) (ns : List ℕ) (limits : Limits) (choice : MemberChoice) (client : List ℕ) (most : ℕ) (r : Receiver) (l : BrokerLine) (s : Session) (w : World) → AllDiffer ids
+pub renewal_is_over : (ids : List CopyId) (birth : ℕ) (ns : List ℕ) (limits : Capacity) (choice : MemberChoice) (client : List ℕ) (most : ℕ) (r : Receiver) (l : BrokerLine) (s : Session) (w : World) → AllDiffer ids
     → MayRenew limits choice ids birth ns client r l s w → is_over client w ≡ false
     → (rounds_taken limits choice client (suc most) w ≡ 1) × (drained limits choice client (suc most) w ≡ after_round limits choice client w) × (is_over client (after_round limits choice client w) ≡ true)
 renewal_is_over ids birth ns limits choice client most r l s w differ m o =
@@ -333,7 +333,7 @@ renewal_is_over ids birth ns limits choice client most r l s w differ m o =
     (rw o (ap suc (over_rounds limits choice client v over most)), more_rounds limits choice client most w o ∙ over_drained limits choice client v over most, over)
 
 -- a client without a session has nothing to drain
-pub none_drained : (limits : Limits) (choice : MemberChoice) (client : List ℕ) (most : ℕ) (w : World) → session_named client w.broker.records ≡ None
+pub none_drained : (limits : Capacity) (choice : MemberChoice) (client : List ℕ) (most : ℕ) (w : World) → session_named client w.broker.records ≡ None
     → (rounds_taken limits choice client most w ≡ 0) × (drained limits choice client most w ≡ w)
 none_drained limits choice client most w none =
     let over = none_over client w (ap copies_by none) in

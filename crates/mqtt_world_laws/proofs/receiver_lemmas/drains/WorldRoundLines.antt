@@ -27,7 +27,7 @@ use Rattle.mqtt_rules.specs.step.Deeds.{At, Deed, Gone, Greet, Hear, Leave, Link
 use Rattle.mqtt_rules.specs.step.Lines.{HasUniqueLines}
 use Rattle.mqtt_rules.specs.step.State.{Line as BrokerLine, Broker, MemberChoice, is_of, session_at}
 use Rattle.mqtt_rules.specs.step.Step.{Call, at_moment, deeds, stepped, with_moment}
-use Rattle.mqtt_rules.specs.declared.step.Limits.{Limits}
+use Rattle.mqtt_rules.specs.declared.step.Capacity.{Capacity}
 
 -- the Receive Maximum and the Maximum Packet Size on the line of a number
 abbrev pub way_on : ℕ → List BrokerLine → Option (ℕ × ℕ)
@@ -105,7 +105,7 @@ none_closed (d ∷ ds) b q = rw (closes_none d b q.0) (none_closed ds (after d b
 -- ---- a call of such deeds
 
 -- and keep what a line lets through
-pub quiet_way : (n : ℕ) (limits : Limits) (choice : MemberChoice) (now : ℕ) (call : Call) (b : Broker) → AreGood IsQuiet (deeds limits choice now call b) (at_moment now b)
+pub quiet_way : (n : ℕ) (limits : Capacity) (choice : MemberChoice) (now : ℕ) (call : Call) (b : Broker) → AreGood IsQuiet (deeds limits choice now call b) (at_moment now b)
     → way_on n (stepped limits choice now call b).lines ≡ way_on n b.lines
 quiet_way n limits choice now call b q =
     let first = at_moment now b in
@@ -117,7 +117,7 @@ moment_unique [] b u = u
 moment_unique (row ∷ rows) b u = record { ascending = u.ascending; given = u.given; once = u.once; stands = u.stands; connected = u.connected }
 
 -- and each session on one line
-pub quiet_unique : (limits : Limits) (choice : MemberChoice) (now : ℕ) (call : Call) (b : Broker) → AreGood IsQuiet (deeds limits choice now call b) (at_moment now b)
+pub quiet_unique : (limits : Capacity) (choice : MemberChoice) (now : ℕ) (call : Call) (b : Broker) → AreGood IsQuiet (deeds limits choice now call b) (at_moment now b)
     → HasUniqueLines b → HasUniqueLines (stepped limits choice now call b)
 quiet_unique limits choice now call b q u =
     let first = at_moment now b in
@@ -135,7 +135,7 @@ moment_now [] b = refl
 moment_now (row ∷ rows) b = refl
 
 -- a step's moment is the one that it begins with
-pub step_now : (limits : Limits) (choice : MemberChoice) (now : ℕ) (call : Call) (b : Broker) → (stepped limits choice now call b).now ≡ (at_moment now b).now
+pub step_now : (limits : Capacity) (choice : MemberChoice) (now : ℕ) (call : Call) (b : Broker) → (stepped limits choice now call b).now ≡ (at_moment now b).now
 step_now limits choice now call b =
     let first = at_moment now b in
     let ds = deeds limits choice now call b in
@@ -201,7 +201,7 @@ moment_same [] b = record { retained = refl; subscribes = refl }
 moment_same (row ∷ rows) b = record { retained = refl; subscribes = refl }
 
 -- a call of such deeds keeps sessions and lines
-pub call_same : (limits : Limits) (choice : MemberChoice) (now : ℕ) (call : Call) (b : Broker) → AllByRecursion IsOfTurn (deeds limits choice now call b) → HasSame b (stepped limits choice now call b)
+pub call_same : (limits : Capacity) (choice : MemberChoice) (now : ℕ) (call : Call) (b : Broker) → AllByRecursion IsOfTurn (deeds limits choice now call b) → HasSame b (stepped limits choice now call b)
 call_same limits choice now call b q =
     let first = at_moment now b in
     let ds = deeds limits choice now call b in

@@ -28,7 +28,7 @@ use Rattle.mqtt_rules.specs.step.Laws.{IsOrdered}
 use Rattle.mqtt_rules.specs.step.Lines.{HasUniqueLines}
 use Rattle.mqtt_rules.specs.step.State.{Line as BrokerLine, Broker, Env, MemberChoice, line_at, queue_on, session_at}
 use Rattle.mqtt_rules.specs.step.Step.{Call, Input, Pump, at_moment, deeds, env_of, next_packet, stepped}
-use Rattle.mqtt_rules.specs.declared.step.Limits.{Limits}
+use Rattle.mqtt_rules.specs.declared.step.Capacity.{Capacity}
 use Rattle.mqtt_rules.specs.whole.Whole.{AreNoLarger, FitsWhole}
 use Rattle.mqtt_world_laws.specs.receiver.Calls.{receiver_called}
 use Rattle.mqtt_world_laws.specs.receiver.Handing.{IsListening, IsRun, after_answer, reads_answer}
@@ -134,7 +134,7 @@ module _ (number : Numbering) (largest window : ℕ) (ids : List CopyId) (birth 
 
   -- ---- a call that closes no line and connects nobody
 
-  module _ (limits : Limits) (choice : MemberChoice) (now : ℕ) (call : Call) (r : Receiver) (b : Broker) (quiet : AreGood IsQuiet (deeds limits choice now call b) (at_moment now b)) where
+  module _ (limits : Capacity) (choice : MemberChoice) (now : ℕ) (call : Call) (r : Receiver) (b : Broker) (quiet : AreGood IsQuiet (deeds limits choice now call b) (at_moment now b)) where
     -- quiet deeds leave what is under way from the receiver
     pub stays_up : (ups : List Back) → unless_closed (is_one_of r.line.number (filter_map closing (deeds limits choice now call b))) ups ≡ ups
     stays_up ups = ap (λ (z : Bool). unless_closed z ups) (ap (is_one_of r.line.number) (none_closed (deeds limits choice now call b) (at_moment now b) quiet) ∙ none_of r.line.number)
@@ -148,7 +148,7 @@ module _ (number : Numbering) (largest window : ℕ) (ids : List CopyId) (birth 
 
   -- ---- the broker sends
 
-  quiet_sending : (limits : Limits) (choice : MemberChoice) (now : ℕ) (r : Receiver) (b : Broker) (c : IsConnected largest window ids birth ns r b) → AreGood IsQuiet (deeds limits choice now (Pump c.line.number) b) (at_moment now b)
+  quiet_sending : (limits : Capacity) (choice : MemberChoice) (now : ℕ) (r : Receiver) (b : Broker) (c : IsConnected largest window ids birth ns r b) → AreGood IsQuiet (deeds limits choice now (Pump c.line.number) b) (at_moment now b)
   quiet_sending limits choice now r b c =
       let a = listens_now r b c in
       let s = a.session in
@@ -162,7 +162,7 @@ module _ (number : Numbering) (largest window : ℕ) (ids : List CopyId) (birth 
       let at : session_at birth b.records ≡ Some a.session = ap (λ (k : ℕ). session_at k b.records) (sym a.birth_is) ∙ a.listening.session in
       subst (λ (k : ℕ). AreNoLarger k a.session.queue) (sym c.largest_is) (c.fits a.session at)
 
-  sending_turns : (limits : Limits) (choice : MemberChoice) (now : ℕ) (r : Receiver) (b : Broker) (c : IsConnected largest window ids birth ns r b) → AllByRecursion IsOfTurn (deeds limits choice now (Pump c.line.number) b)
+  sending_turns : (limits : Capacity) (choice : MemberChoice) (now : ℕ) (r : Receiver) (b : Broker) (c : IsConnected largest window ids birth ns r b) → AllByRecursion IsOfTurn (deeds limits choice now (Pump c.line.number) b)
   sending_turns limits choice now r b c =
       let a = listens_now r b c in
       let s = a.session in
@@ -170,15 +170,15 @@ module _ (number : Numbering) (largest window : ℕ) (ids : List CopyId) (birth 
       subst (AllByRecursion IsOfTurn) (sym (pump_is limits choice now c.line s b a.listening.line a.listening.connected a.listening.session)) (of_turns first.now c.line.number s (pump_turns c.line first s))
 
   -- a turn of sending leaves retained messages and granted filters as they are
-  pub pump_same : (limits : Limits) (choice : MemberChoice) (now : ℕ) (r : Receiver) (b : Broker) (c : IsConnected largest window ids birth ns r b) → HasSame b (stepped limits choice now (Pump c.line.number) b)
+  pub pump_same : (limits : Capacity) (choice : MemberChoice) (now : ℕ) (r : Receiver) (b : Broker) (c : IsConnected largest window ids birth ns r b) → HasSame b (stepped limits choice now (Pump c.line.number) b)
   pump_same limits choice now r b c = call_same limits choice now (Pump c.line.number) b (sending_turns limits choice now r b c)
 
   -- what is under way from it stays so
-  pub pump_up : (limits : Limits) (choice : MemberChoice) (now : ℕ) (r : Receiver) (b : Broker) (c : IsConnected largest window ids birth ns r b) → (receiver_called limits choice now (Pump c.line.number) r b).line.up ≡ r.line.up
+  pub pump_up : (limits : Capacity) (choice : MemberChoice) (now : ℕ) (r : Receiver) (b : Broker) (c : IsConnected largest window ids birth ns r b) → (receiver_called limits choice now (Pump c.line.number) r b).line.up ≡ r.line.up
   pump_up limits choice now r b c = stays_up limits choice now (Pump c.line.number) r b (quiet_sending limits choice now r b c) r.line.up
 
   -- a turn of sending takes a connected receiver to the state of its hop's pump
-  pub pump_at : (limits : Limits) (choice : MemberChoice) (now : ℕ) (hop : Hop) (r : Receiver) (b : Broker) (x : At number largest window ids birth ns hop r b)
+  pub pump_at : (limits : Capacity) (choice : MemberChoice) (now : ℕ) (hop : Hop) (r : Receiver) (b : Broker) (x : At number largest window ids birth ns hop r b)
       → At number largest window ids birth ns (step largest hop (pump window (at_moment now b).now)) (receiver_called limits choice now (Pump x.connected.line.number) r b) (stepped limits choice now (Pump x.connected.line.number) b)
   pump_at limits choice now hop r b x =
       let c = x.connected in
@@ -219,12 +219,12 @@ module _ (number : Numbering) (largest window : ℕ) (ids : List CopyId) (birth 
   turn_answer (Err fault) env l s c h = absurd cc
 
   -- the two after it, with what is under way behind it
-  pub record Read (limits : Limits) (choice : MemberChoice) (now : ℕ) (a : Answer) (rest : List Back) (hop : Hop) (n : ℕ) (r : Receiver) (b : Broker) : Type 0 where
+  pub record Read (limits : Capacity) (choice : MemberChoice) (now : ℕ) (a : Answer) (rest : List Back) (hop : Hop) (n : ℕ) (r : Receiver) (b : Broker) : Type 0 where
     pub at : At number largest window ids birth ns (step largest hop (to_broker false)) (reads_answer limits choice now n a r b) (after_answer limits choice now n a r b)
     pub up : (reads_answer limits choice now n a r b).line.up ≡ rest
     pub same : HasSame b (after_answer limits choice now n a r b)
 
-  answered_at : (limits : Limits) (choice : MemberChoice) (now : ℕ) (a : Answer) (rest : List Back) (hop : Hop) (r : Receiver) (b : Broker) (x : At number largest window ids birth ns hop r b) (y : rules.Answer)
+  answered_at : (limits : Capacity) (choice : MemberChoice) (now : ℕ) (a : Answer) (rest : List Back) (hop : Hop) (r : Receiver) (b : Broker) (x : At number largest window ids birth ns hop r b) (y : rules.Answer)
       → r.line.up ≡ answers a ∷ rest → (s : Session) → IsListening r x.connected.line s b
       → next_packet (env_of limits choice b) x.connected.line (wire_back r.client r.window r.aliases (answers a)) s (heard_of now x.connected.line.number b) ≡ on_answer y (env_of limits choice b) x.connected.line s (heard_of now x.connected.line.number b)
       → step largest (seen number x.copies r b) (to_broker false) ≡ replied y (filter_map answered rest) (seen number x.copies r b)
@@ -266,7 +266,7 @@ module _ (number : Numbering) (largest window : ℕ) (ids : List CopyId) (birth 
       }
 
   -- PUBACK, PUBREC or PUBCOMP
-  acknowledged_at : (limits : Limits) (choice : MemberChoice) (now : ℕ) (a : Answer) (rest : List Back) (hop : Hop) (r : Receiver) (b : Broker) (x : At number largest window ids birth ns hop r b)
+  acknowledged_at : (limits : Capacity) (choice : MemberChoice) (now : ℕ) (a : Answer) (rest : List Back) (hop : Hop) (r : Receiver) (b : Broker) (x : At number largest window ids birth ns hop r b)
       → HasNoConnect (a ∷ []) → r.line.up ≡ answers a ∷ rest → Read limits choice now a rest hop x.connected.line.number r b
   acknowledged_at limits choice now a rest hop r b x none up =
       let l = x.connected.line in
@@ -278,7 +278,7 @@ module _ (number : Numbering) (largest window : ℕ) (ids : List CopyId) (birth 
       (answers_in_step largest ids birth ns limits choice now a rest r l s b none x.connected.in_step li.listening up)
 
   -- any answer: a CONNECT isn't under way while the session is connected there
-  pub answer_at : (limits : Limits) (choice : MemberChoice) (now : ℕ) (a : Answer) (rest : List Back) (hop : Hop) (r : Receiver) (b : Broker) (x : At number largest window ids birth ns hop r b)
+  pub answer_at : (limits : Capacity) (choice : MemberChoice) (now : ℕ) (a : Answer) (rest : List Back) (hop : Hop) (r : Receiver) (b : Broker) (x : At number largest window ids birth ns hop r b)
       → r.line.up ≡ answers a ∷ rest → Read limits choice now a rest hop x.connected.line.number r b
   answer_at limits choice now (connect clean) rest hop r b x up =
       let ups : hop.up ≡ connect clean ∷ filter_map answered rest = sym (ap (λ (w : Hop). w.up) x.seen_is) ∙ ap (filter_map answered) up in

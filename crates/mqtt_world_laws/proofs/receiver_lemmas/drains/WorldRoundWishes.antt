@@ -32,7 +32,7 @@ use Rattle.mqtt_rules.specs.step.Routing.{CopyTo}
 use Rattle.mqtt_rules.specs.step.State.{Line as BrokerLine, Broker, Env, MemberChoice, line_at, session_at}
 use Rattle.mqtt_rules.specs.step.Step.{Call, Input, at_moment, deeds, env_of, next_packet, stepped}
 use Rattle.mqtt_rules.specs.step.Subscribe as sub
-use Rattle.mqtt_rules.specs.declared.step.Limits.{Limits}
+use Rattle.mqtt_rules.specs.declared.step.Capacity.{Capacity}
 use Rattle.mqtt_packet.specs.declared.subscribe.subscribe.Subscribe.{Subscribe as Asking}
 use Rattle.mqtt_world_laws.proofs.acceptance_lemmas.copies.Differ.{AreApart, differ_join}
 use Rattle.mqtt_world_laws.specs.receiver.Handing.{IsRun, receiver_after}
@@ -105,7 +105,7 @@ module _ (number : Numbering) (largest window : ℕ) (ids : List CopyId) (birth 
   asking r n w = Input n (wire_back r.client r.window r.aliases (asks_for w))
 
   -- connected with some copies more, of which no two are one
-  pub record HasWished (limits : Limits) (choice : MemberChoice) (now : ℕ) (w : Wish) (rest : List Back) (n : ℕ) (r : Receiver) (b : Broker) : Type 0 where
+  pub record HasWished (limits : Capacity) (choice : MemberChoice) (now : ℕ) (w : Wish) (rest : List Back) (n : ℕ) (r : Receiver) (b : Broker) : Type 0 where
     pub more : List CopyId
     pub new : AllByRecursion (IsBroughtCopy birth (suc b.records.subscribes)) more
     pub differ : AllDiffer (ids ++ more)
@@ -116,7 +116,7 @@ module _ (number : Numbering) (largest window : ℕ) (ids : List CopyId) (birth 
     pub up : (receiver_after limits choice now (asking r n w) r b).line.up ≡ rest
 
   -- a SUBSCRIBE of a connected receiver leaves it connected, with the copies that it brings
-  pub wish_at : (limits : Limits) (choice : MemberChoice) (now : ℕ) (w : Wish) (rest : List Back) (r : Receiver) (b : Broker) (c : IsConnected largest window ids birth ns r b) → IsTidy limits b → AreTold ids b
+  pub wish_at : (limits : Capacity) (choice : MemberChoice) (now : ℕ) (w : Wish) (rest : List Back) (r : Receiver) (b : Broker) (c : IsConnected largest window ids birth ns r b) → IsTidy limits b → AreTold ids b
       → AllByRecursion (BringsNoLarger largest w.identifier) b.records.retained → r.line.up ≡ asks_for w ∷ rest → HasWished limits choice now w rest c.line.number r b
   wish_at limits choice now w rest r b c tidy told no_larger up =
       let l = c.line in

@@ -20,7 +20,7 @@ use Rattle.mqtt_rules.proofs.step_lemmas.numbers.Copies.{each_append}
 use Rattle.mqtt_rules.proofs.step_lemmas.acts.Leads.{found_passes}
 use Rattle.mqtt_rules.specs.step.State.{Broker, MemberChoice, capped, session_at, session_named}
 use Rattle.mqtt_rules.specs.step.Step.{Call, Input, Outcome, Pump, stepped, told}
-use Rattle.mqtt_rules.specs.declared.step.Limits.{Limits}
+use Rattle.mqtt_rules.specs.declared.step.Capacity.{Capacity}
 use Rattle.mqtt_world_laws.proofs.acceptance_lemmas.publishers.Ends.{find_publisher, find_receiver, named_receiver, only_receiver}
 use Rattle.mqtt_world_laws.specs.receiver.Drains.{after_round, all_to_broker, all_to_end, copies_by, copies_left, downs_by, drain_turns, drained, enough_rounds, is_none_left, is_over, line_stands, round_turns, rounds_taken, times, turn_of, ups_by}
 use Rattle.mqtt_world_laws.specs.receiver.Handing.{IsRun}
@@ -101,7 +101,7 @@ pub record Here (number : Numbering) (largest window : ℕ) (ids : List CopyId) 
 
 -- ---- the events of a round
 
-module _ (limits : Limits) (choice : MemberChoice) (client : List ℕ) where
+module _ (limits : Capacity) (choice : MemberChoice) (client : List ℕ) where
   abbrev set : Setting
   set = record { limits = limits; choice = choice }
 
@@ -358,7 +358,7 @@ moment_unless : (bad : Bool) (w v : World) → moment_of v ≡ moment_of w → m
 moment_unless true w v e = refl
 moment_unless false w v e = e
 
-module _ (limits : Limits) (choice : MemberChoice) (client : List ℕ) where
+module _ (limits : Capacity) (choice : MemberChoice) (client : List ℕ) where
   abbrev KeepsMoment : Event → Type 0
   KeepsMoment e = (w : World) → moment_of (turned limits (turn_of choice e) w) ≡ moment_of w
 
@@ -412,13 +412,13 @@ answers_fewer largest k h r =
 -- ---- the first round, if a SUBSCRIBE is under way
 
 -- tables are in order, and copies differ; so many filters were granted, and these messages are retained
-record Orderly (limits : Limits) (ids : List CopyId) (granted : ℕ) (kept : List RetainedMessage) (w : World) : Type 0 where
+record Orderly (limits : Capacity) (ids : List CopyId) (granted : ℕ) (kept : List RetainedMessage) (w : World) : Type 0 where
   pub tidy : IsTidy limits w.broker
   pub told : AreTold ids w.broker
   pub granted_is : w.broker.records.subscribes ≡ granted
   pub kept_is : w.broker.records.retained ≡ kept
 
-orderly_on : (limits : Limits) (ids : List CopyId) (granted : ℕ) (kept : List RetainedMessage) (w v : World) → IsTidy limits v.broker → HasSame w.broker v.broker → Orderly limits ids granted kept w → Orderly limits ids granted kept v
+orderly_on : (limits : Capacity) (ids : List CopyId) (granted : ℕ) (kept : List RetainedMessage) (w v : World) → IsTidy limits v.broker → HasSame w.broker v.broker → Orderly limits ids granted kept w → Orderly limits ids granted kept v
 orderly_on limits ids granted kept w v tidy same o = record {
   tidy = tidy;
   told = record {
@@ -439,7 +439,7 @@ once_more [] a h = tt
 once_more (answers b ∷ up) a h = once_more up a h
 once_more (asks_for w ∷ up) a h = each_append IsAnswer up (answers a ∷ []) h (tt, tt)
 
-module _ (limits : Limits) (choice : MemberChoice) (client : List ℕ) (number : Numbering) (largest window : ℕ) (ids : List CopyId) (birth : ℕ) (ns : List ℕ) (granted : ℕ) (kept : List RetainedMessage) where
+module _ (limits : Capacity) (choice : MemberChoice) (client : List ℕ) (number : Numbering) (largest window : ℕ) (ids : List CopyId) (birth : ℕ) (ns : List ℕ) (granted : ℕ) (kept : List RetainedMessage) where
   abbrev sends : Turn
   sends = turn_of choice (ask (pump client))
 
@@ -569,7 +569,7 @@ module _ (limits : Limits) (choice : MemberChoice) (client : List ℕ) (number :
         }
 
 -- with the copies that it sees
-pub first_round_of : (number : Numbering) (largest window : ℕ) (ids : List CopyId) (birth : ℕ) (ns : List ℕ) (limits : Limits) (choice : MemberChoice) (client : List ℕ) (copies : List Lot) (r : Receiver) (w : World)
+pub first_round_of : (number : Numbering) (largest window : ℕ) (ids : List CopyId) (birth : ℕ) (ns : List ℕ) (limits : Capacity) (choice : MemberChoice) (client : List ℕ) (copies : List Lot) (r : Receiver) (w : World)
     → MayAsk limits largest window ids birth ns client r w → map id_of copies ≡ ids → IsRun number largest copies r w.broker
     → DrainsBehind largest window ids birth ns client (suc w.broker.records.subscribes) (copies_left client w) (moment_of w) copies (after_round limits choice client w)
 first_round_of number largest window ids birth ns limits choice client copies r w may same run_is =
@@ -626,7 +626,7 @@ first_round_of number largest window ids birth ns limits choice client copies r 
     })
 
 -- a round in the world is one of the hop
-pub first_round : (largest window : ℕ) (ids : List CopyId) (birth : ℕ) (ns : List ℕ) (limits : Limits) (choice : MemberChoice) (client : List ℕ) (r : Receiver) (w : World) → MayAsk limits largest window ids birth ns client r w
+pub first_round : (largest window : ℕ) (ids : List CopyId) (birth : ℕ) (ns : List ℕ) (limits : Capacity) (choice : MemberChoice) (client : List ℕ) (r : Receiver) (w : World) → MayAsk limits largest window ids birth ns client r w
     → DrainsWith largest window ids birth ns client (suc w.broker.records.subscribes) (copies_left client w) (after_round limits choice client w)
 first_round largest window ids birth ns limits choice client r w may =
     let k = may.connected.in_step.runs (place_of ids) (places_number ids may.told.differ) in
@@ -634,7 +634,7 @@ first_round largest window ids birth ns limits choice client r w may =
 
 -- ---- the laws
 
-module _ (number : Numbering) (largest window : ℕ) (ids : List CopyId) (birth : ℕ) (ns : List ℕ) (limits : Limits) (choice : MemberChoice) (client : List ℕ) (copies : List Lot) (r : Receiver) (w : World)
+module _ (number : Numbering) (largest window : ℕ) (ids : List CopyId) (birth : ℕ) (ns : List ℕ) (limits : Capacity) (choice : MemberChoice) (client : List ℕ) (copies : List Lot) (r : Receiver) (w : World)
     (may : MayDrain largest window ids birth ns client r w) (same : map id_of copies ≡ ids) (k : IsRun number largest copies r w.broker) where
   -- a round of the drain in the world is a round of the hop
   pub round_is : ComesTo number largest window ids birth ns client (rounds.after_round largest window (moment_of w) (seen number copies r w.broker)) (after_round limits choice client w)
@@ -689,7 +689,7 @@ module _ (number : Numbering) (largest window : ℕ) (ids : List CopyId) (birth 
       }
 
 -- however the copies are numbered
-module _ (largest window : ℕ) (ids : List CopyId) (birth : ℕ) (ns : List ℕ) (limits : Limits) (choice : MemberChoice) (client : List ℕ) (most : ℕ) (r : Receiver) (w : World) where
+module _ (largest window : ℕ) (ids : List CopyId) (birth : ℕ) (ns : List ℕ) (limits : Capacity) (choice : MemberChoice) (client : List ℕ) (most : ℕ) (r : Receiver) (w : World) where
   -- a drain of a receiver that may be drained takes no more than two rounds for each copy
   pub drain_is_within : 1 ≤ window → AllDiffer ids → MayDrain largest window ids birth ns client r w → rounds_taken limits choice client most w ≤ 2 * copies_left client w
   drain_is_within room differ may =
@@ -738,13 +738,13 @@ module _ (largest window : ℕ) (ids : List CopyId) (birth : ℕ) (ns : List ℕ
           (test_cases (is_over client w))
 
 -- one round more, if it is not over
-pub more_rounds : (limits : Limits) (choice : MemberChoice) (client : List ℕ) (most : ℕ) (w : World) → is_over client w ≡ false → drained limits choice client (suc most) w ≡ drained limits choice client most (after_round limits choice client w)
+pub more_rounds : (limits : Capacity) (choice : MemberChoice) (client : List ℕ) (most : ℕ) (w : World) → is_over client w ≡ false → drained limits choice client (suc most) w ≡ drained limits choice client most (after_round limits choice client w)
 more_rounds limits choice client most w o =
     let v = after_round limits choice client w in
     rw o (run_append limits (round_turns limits choice client w) (drain_turns limits choice client most v) w)
 
 -- so many copies stand as of those that it sees
-pub left_of : (number : Numbering) (largest window : ℕ) (ids : List CopyId) (birth : ℕ) (ns : List ℕ) (limits : Limits) (choice : MemberChoice) (client : List ℕ) (copies : List Lot) (r : Receiver) (w : World)
+pub left_of : (number : Numbering) (largest window : ℕ) (ids : List CopyId) (birth : ℕ) (ns : List ℕ) (limits : Capacity) (choice : MemberChoice) (client : List ℕ) (copies : List Lot) (r : Receiver) (w : World)
     → MayDrain largest window ids birth ns client r w → map id_of copies ≡ ids → IsRun number largest copies r w.broker → copies_left client w ≡ length (queue_of copies)
 left_of number largest window ids birth ns limits choice client copies r w may same run_is =
     left_is limits choice client number largest window ids birth ns (seen number copies r w.broker) w (record { receiver = r; may = may; copies = copies; same = same; run_is = run_is; seen_is = refl })
@@ -752,7 +752,7 @@ left_of number largest window ids birth ns limits choice client copies r w may s
 -- ---- the whole drain, if a SUBSCRIBE is under way
 
 -- a subscription under way does not hinder a drain
-pub subscribe_is_drained : (number : Numbering) (largest window : ℕ) (ids : List CopyId) (birth : ℕ) (ns : List ℕ) (limits : Limits) (choice : MemberChoice) (client : List ℕ) (copies : List Lot) (most : ℕ) (r : Receiver) (w : World)
+pub subscribe_is_drained : (number : Numbering) (largest window : ℕ) (ids : List CopyId) (birth : ℕ) (ns : List ℕ) (limits : Capacity) (choice : MemberChoice) (client : List ℕ) (copies : List Lot) (most : ℕ) (r : Receiver) (w : World)
     → 1 ≤ window → MayAsk limits largest window ids birth ns client r w → map id_of copies ≡ ids → IsRun number largest copies r w.broker → is_over client w ≡ false
     → DrainsBehind largest window ids birth ns client (suc w.broker.records.subscribes) (copies_left client w) (moment_of w) copies (drained limits choice client (suc most) w)
 subscribe_is_drained number largest window ids birth ns limits choice client copies most r w room may same run_is o =

@@ -17,7 +17,7 @@ use Rattle.mqtt_packet.specs.codec.Frames.{frame_at, body_at, versioned_at, lawf
 use Rattle.mqtt_packet.specs.stream.Front.{size_at, first_of}
 use Rattle.mqtt_flow.specs.declared.outbound.entry.Full.TheVariants.{Drop}
 use Rattle.mqtt_rules.specs.step.Deeds.{output, report}
-use Rattle.mqtt_rules.specs.declared.step.Limits.{Limits}
+use Rattle.mqtt_rules.specs.declared.step.Capacity.{Capacity}
 use Rattle.mqtt_rules.specs.declared.step.Report.{Report}
 use Rattle.mqtt_rules.specs.declared.step.Report.TheVariants.{Ended, Entered}
 use Rattle.mqtt_rules.proofs.step_lemmas.examples.Play.{usual, first, bytes}
@@ -39,7 +39,7 @@ record Drained : Type 0 where
   pub out : ℕ
   pub left : ℕ
 
-abbrev drains_from : Limits → ℕ → World → Drained
+abbrev drains_from : Capacity → ℕ → World → Drained
 drains_from limits most w =
     let turns_made = drain_turns limits first r1 most w in
     let ds = deeds_over limits turns_made w in
@@ -121,7 +121,7 @@ a_clean_start_ends_them = refl
 -- ---- a SUBSCRIBE is under way, and the queue drops when it is full: of two copies the one that waits makes way for that of the
 -- retained message; it counts as one that entered
 
-abbrev dropping : Limits
+abbrev dropping : Capacity
 dropping = record usual { full = Drop; queue = 2 }
 
 abbrev kept_draft : Draft
@@ -150,10 +150,10 @@ one_makes_way = refl
 -- ---- three copies wait, and the broker is opened again with room for two in a queue: the three are taken, and in order; under
 -- Drop none makes way for what doesn't come
 
-abbrev refusing : Limits
+abbrev refusing : Capacity
 refusing = record usual { queue = 2 }
 
-abbrev opened_smaller : Limits → World
+abbrev opened_smaller : Capacity → World
 opened_smaller limits =
     let w = after usual (turns (both_wait 1 ++ publish p1 draft ∷ ask (to_broker p1) ∷ [])) in
     run limits (turns (receiver r1 1 0 ∷ joins r1 false)) (opened_world limits first 0 w.broker.records)

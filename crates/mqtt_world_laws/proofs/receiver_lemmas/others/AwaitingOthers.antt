@@ -44,7 +44,7 @@ use Rattle.mqtt_rules.specs.step.State.{Line as BrokerLine, Broker, Env, MemberC
 use Rattle.mqtt_rules.specs.step.Step.{Call, NewLine, Input, BadInput, Lost, Pump, Tick, at_moment, deeds, done, env_of, outcome_of, stepped}
 use Rattle.mqtt_rules.specs.step.Subscribe as sub
 use Rattle.mqtt_rules.specs.step.Tick.{lapse_deeds, lapses}
-use Rattle.mqtt_rules.specs.declared.step.Limits.{Limits}
+use Rattle.mqtt_rules.specs.declared.step.Capacity.{Capacity}
 use Rattle.mqtt_topic.specs.names.Names.{is_empty}
 use Rattle.mqtt_world_laws.specs.receiver.Calls.{receiver_called}
 use Rattle.mqtt_world_laws.specs.receiver.Handing.{IsRun}
@@ -324,7 +324,7 @@ unnamed_run number largest copies r b c before last linked h =
 -- ---- the call
 
 -- a call of another's leaves it waiting
-pub others_awaiting : (largest : ℕ) (ids : List CopyId) (limits : Limits) (choice : MemberChoice) (now : ℕ) (call : Call) (ns : List ℕ) (r : Receiver) (b : Broker)
+pub others_awaiting : (largest : ℕ) (ids : List CopyId) (limits : Capacity) (choice : MemberChoice) (now : ℕ) (call : Call) (ns : List ℕ) (r : Receiver) (b : Broker)
     → IsAwaiting largest ids ns r b → session_named r.client b.records ≡ None → starts_with nat_eq r.client auto ≡ false → IsCallOfOthers r.client ns call (at_moment now b)
     → IsAwaiting largest ids ns (receiver_called limits choice now call r b) (stepped limits choice now call b) × (session_named r.client (stepped limits choice now call b).records ≡ None)
 others_awaiting largest ids limits choice now call ns r b k none plain its =
@@ -359,7 +359,7 @@ others_awaiting largest ids limits choice now call ns r b k none plain its =
 -- ---- a tick closes a line on which CONNECT didn't come in time
 
 -- so does a line that closes before its CONNECT
-pub late_awaiting : (largest : ℕ) (ids : List CopyId) (limits : Limits) (choice : MemberChoice) (now : ℕ) (ns : List ℕ) (n : ℕ) (r : Receiver) (b : Broker)
+pub late_awaiting : (largest : ℕ) (ids : List CopyId) (limits : Capacity) (choice : MemberChoice) (now : ℕ) (ns : List ℕ) (n : ℕ) (r : Receiver) (b : Broker)
     → IsAwaiting largest ids ns r b → session_named r.client b.records ≡ None → IsOverdue n (at_moment now b)
     → IsAwaiting largest ids ns (receiver_called limits choice now Tick r b) (stepped limits choice now Tick b) × (session_named r.client (stepped limits choice now Tick b).records ≡ None)
 late_awaiting largest ids limits choice now ns n r b k none late =

@@ -31,7 +31,7 @@ use Rattle.mqtt_rules.specs.step.Flight.{IsFlight, identifier_in}
 use Rattle.mqtt_rules.specs.step.Outbound.{of_entry, turn_deeds, all_turn_deeds}
 use Rattle.mqtt_rules.specs.step.State.{Line as BrokerLine, Broker, MemberChoice, entry_on, session_at, session_named}
 use Rattle.mqtt_rules.specs.step.Step.{Call, at_moment, copy_in, copy_of_session, copy_on, deeds, stepped}
-use Rattle.mqtt_rules.specs.declared.step.Limits.{Limits}
+use Rattle.mqtt_rules.specs.declared.step.Capacity.{Capacity}
 use Rattle.mqtt_world_laws.specs.receiver.Calls.{receiver_called}
 use Rattle.mqtt_world_laws.specs.receiver.Seen.{AreQueued, Numbering, StandOn, answered, handed_in, heard_in, seen, went_in}
 use Rattle.mqtt_world_laws.specs.receiver.Tags.{AreTagged, IsTagged}
@@ -142,7 +142,7 @@ finds n birth new t on at flight place id e there has =
 
 -- ---- what is seen after a call
 
-module _ (number : Numbering) (copies2 : List Lot) (ids : List CopyId) (limits : Limits) (choice : MemberChoice) (now : ℕ) (call : Call) (q : Receiver) (n birth : ℕ) (b : Broker) where
+module _ (number : Numbering) (copies2 : List Lot) (ids : List CopyId) (limits : Capacity) (choice : MemberChoice) (now : ℕ) (call : Call) (q : Receiver) (n birth : ℕ) (b : Broker) where
   abbrev done_deeds : List Deed
   done_deeds = deeds limits choice now call b
 

@@ -38,7 +38,7 @@ use Rattle.mqtt_rules.specs.step.State.{Line as BrokerLine, Broker, Env, MemberC
 use Rattle.mqtt_rules.specs.step.Step.{Call, NewLine, Input, BadInput, Lost, Pump, Tick, at_moment, deeds, env_of, outcome_of, stepped, with_moment}
 use Rattle.mqtt_rules.specs.step.Subscribe as sub
 use Rattle.mqtt_rules.specs.step.Tick.{is_silent}
-use Rattle.mqtt_rules.specs.declared.step.Limits.{Limits}
+use Rattle.mqtt_rules.specs.declared.step.Capacity.{Capacity}
 use Rattle.mqtt_topic.specs.names.Names.{is_empty}
 use Rattle.mqtt_world_laws.specs.receiver.Calls.{receiver_called}
 use Rattle.mqtt_world_laws.specs.receiver.Entering.{IsReceiving}
@@ -270,7 +270,7 @@ told_all number largest all birth ns r call ds b new has mute h = record {
 }
 
 -- a call of another's leaves the hop going on
-pub others_go_on : (largest : ℕ) (ids : List CopyId) (limits : Limits) (choice : MemberChoice) (now : ℕ) (call : Call) (birth : ℕ) (ns : List ℕ) (r : Receiver) (b : Broker)
+pub others_go_on : (largest : ℕ) (ids : List CopyId) (limits : Capacity) (choice : MemberChoice) (now : ℕ) (call : Call) (birth : ℕ) (ns : List ℕ) (r : Receiver) (b : Broker)
     → RunsFor largest ids birth r b → IsServed r.client birth ns b → HasLines ns r → IsTidy limits b → starts_with nat_eq r.client auto ≡ false
     → IsCallOfOthers r.client ns call (at_moment now b)
     → GoesOn largest ids birth ns b.records.publications (receiver_called limits choice now call r b) (stepped limits choice now call b)

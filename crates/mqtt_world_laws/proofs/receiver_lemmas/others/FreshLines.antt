@@ -16,7 +16,7 @@ use Rattle.mqtt_rules.specs.step.Deeds.{At, Deed, Gone, Leave, LinePart, Link, O
 use Rattle.mqtt_rules.specs.step.State.{Line as BrokerLine, Broker, Env, MemberChoice, is_of, line_at}
 use Rattle.mqtt_rules.specs.step.Step.{Call, NewLine, Input, BadInput, Lost, Pump, Tick, at_moment, deeds, deeds_of, env_of, stepped}
 use Rattle.mqtt_rules.specs.step.Tick.{is_silent}
-use Rattle.mqtt_rules.specs.declared.step.Limits.{Limits}
+use Rattle.mqtt_rules.specs.declared.step.Capacity.{Capacity}
 use Rattle.mqtt_world_laws.specs.receiver.Own.{IsFreeLine}
 use Rattle.mqtt_world_laws.proofs.receiver_lemmas.others.AwaitingOthers.{IsApart, IsApartHere, IsFree, apart_law, free_deeds, others, outside_at}
 use Rattle.mqtt_world_laws.proofs.receiver_lemmas.others.IdleLines.{first_idle, pump_none}
@@ -182,7 +182,7 @@ module _ (n : ℕ) where
       ]
 
 -- an idle line stays under calls on others
-pub idle_line_stays : (limits : Limits) (choice : MemberChoice) (now n : ℕ) (call : Call) (l : BrokerLine) (b : Broker) → IsIdle n b → IsElsewhere n call
+pub idle_line_stays : (limits : Capacity) (choice : MemberChoice) (now n : ℕ) (call : Call) (l : BrokerLine) (b : Broker) → IsIdle n b → IsElsewhere n call
     → line_at n (stepped limits choice now call b) ≡ Some l → line_at n b ≡ Some l
 idle_line_stays limits choice now n call l b idle other e =
     let first = at_moment now b in

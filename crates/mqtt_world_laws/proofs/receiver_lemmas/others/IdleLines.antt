@@ -14,7 +14,7 @@ use Rattle.mqtt_rules.specs.step.Closing.{close, close_connected}
 use Rattle.mqtt_rules.specs.step.Deeds.{Deed, Gone, after, with_line}
 use Rattle.mqtt_rules.specs.step.State.{Line as BrokerLine, Broker, Env, MemberChoice, line_at}
 use Rattle.mqtt_rules.specs.step.Step.{Lost, Pump, at_moment, deeds_of, done, env_of, on_pump, outcome_of, stepped}
-use Rattle.mqtt_rules.specs.declared.step.Limits.{Limits}
+use Rattle.mqtt_rules.specs.declared.step.Capacity.{Capacity}
 use Rattle.mqtt_world_laws.specs.receiver.Calls.{receiver_called}
 use Rattle.mqtt_world_laws.specs.receiver.Handing.{IsRun, receiver_lost}
 use Rattle.mqtt_world_laws.specs.receiver.Own.{IsAwaiting, IsInStep}
@@ -81,7 +81,7 @@ first_served : (client : List ℕ) (birth : ℕ) (ns : List ℕ) (now : ℕ) (b 
 first_served client birth ns now b v = record { sessions = v.sessions; lines = v.lines; births = v.births; given = v.given }
 
 -- such a pump leaves the receiver in step
-pub idle_pump_in_step : (largest : ℕ) (ids : List CopyId) (birth : ℕ) (ns : List ℕ) (limits : Limits) (choice : MemberChoice) (now n : ℕ) (r : Receiver) (b : Broker)
+pub idle_pump_in_step : (largest : ℕ) (ids : List CopyId) (birth : ℕ) (ns : List ℕ) (limits : Capacity) (choice : MemberChoice) (now n : ℕ) (r : Receiver) (b : Broker)
     → IsInStep largest ids birth ns r b → IsIdle n b → IsInStep largest ids birth ns (receiver_called limits choice now (Pump n) r b) (stepped limits choice now (Pump n) b)
 idle_pump_in_step largest ids birth ns limits choice now n r b k idle =
     let first = at_moment now b in
@@ -93,7 +93,7 @@ idle_pump_in_step largest ids birth ns limits choice now n r b k idle =
     subst (λ (ds : List Deed). IsInStep largest ids birth ns (receiver_told (done ds first) (outcome_of (Pump n) ds first) r) (done ds first)) (sym (pump_none (env_of limits choice b) n first (first_idle now n b idle))) base
 
 -- so does the loss of such a line
-pub idle_loss_in_step : (largest : ℕ) (ids : List CopyId) (birth : ℕ) (ns : List ℕ) (limits : Limits) (choice : MemberChoice) (now n : ℕ) (r : Receiver) (b : Broker)
+pub idle_loss_in_step : (largest : ℕ) (ids : List CopyId) (birth : ℕ) (ns : List ℕ) (limits : Capacity) (choice : MemberChoice) (now n : ℕ) (r : Receiver) (b : Broker)
     → IsInStep largest ids birth ns r b → IsIdle n b → IsInStep largest ids birth ns (receiver_lost limits choice now n r b) (stepped limits choice now (Lost n) b)
 idle_loss_in_step largest ids birth ns limits choice now n r b k idle =
     let first = at_moment now b in
@@ -124,7 +124,7 @@ idle_loss_in_step largest ids birth ns limits choice now n r b k idle =
 -- ---- before its session begins
 
 -- and the pump leaves it waiting
-pub idle_pump_awaiting : (largest : ℕ) (ids : List CopyId) (ns : List ℕ) (limits : Limits) (choice : MemberChoice) (now n : ℕ) (r : Receiver) (b : Broker)
+pub idle_pump_awaiting : (largest : ℕ) (ids : List CopyId) (ns : List ℕ) (limits : Capacity) (choice : MemberChoice) (now n : ℕ) (r : Receiver) (b : Broker)
     → IsAwaiting largest ids ns r b → IsIdle n b → IsAwaiting largest ids ns (receiver_called limits choice now (Pump n) r b) (stepped limits choice now (Pump n) b)
 idle_pump_awaiting largest ids ns limits choice now n r b k idle =
     let first = at_moment now b in
@@ -139,7 +139,7 @@ idle_pump_awaiting largest ids ns limits choice now n r b k idle =
     subst (λ (ds : List Deed). IsAwaiting largest ids ns (receiver_told (done ds first) (outcome_of (Pump n) ds first) r) (done ds first)) (sym (pump_none (env_of limits choice b) n first (first_idle now n b idle))) base
 
 -- so does the loss
-pub idle_loss_awaiting : (largest : ℕ) (ids : List CopyId) (ns : List ℕ) (limits : Limits) (choice : MemberChoice) (now n : ℕ) (r : Receiver) (b : Broker)
+pub idle_loss_awaiting : (largest : ℕ) (ids : List CopyId) (ns : List ℕ) (limits : Capacity) (choice : MemberChoice) (now n : ℕ) (r : Receiver) (b : Broker)
     → IsAwaiting largest ids ns r b → IsIdle n b → IsAwaiting largest ids ns (receiver_lost limits choice now n r b) (stepped limits choice now (Lost n) b)
 idle_loss_awaiting largest ids ns limits choice now n r b k idle =
     let first = at_moment now b in

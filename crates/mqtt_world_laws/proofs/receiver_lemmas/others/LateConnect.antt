@@ -22,7 +22,7 @@ use Rattle.mqtt_rules.specs.step.Deeds.{Deed, Forget, Gone, after, always}
 use Rattle.mqtt_rules.specs.step.State.{Line as BrokerLine, Broker, Env, MemberChoice, is_of, session_named}
 use Rattle.mqtt_rules.specs.step.Step.{Tick, at_moment, deeds_of, done, env_of, outcome_of, stepped}
 use Rattle.mqtt_rules.specs.step.Tick.{first_due, has_lapsed, is_silent, is_stale, lapse_deeds, on_tick, silence}
-use Rattle.mqtt_rules.specs.declared.step.Limits.{Limits}
+use Rattle.mqtt_rules.specs.declared.step.Capacity.{Capacity}
 use Rattle.mqtt_world_laws.specs.receiver.Calls.{receiver_called}
 use Rattle.mqtt_world_laws.specs.receiver.Entering.{AreKnown, IsReceiving}
 use Rattle.mqtt_world_laws.specs.receiver.Handing.{IsRun}
@@ -180,7 +180,7 @@ closing_served client birth ns n b v = record { sessions = v.sessions; lines = g
 -- ---- the tick
 
 -- so the clock's turn goes on
-pub late_goes_on : (largest : ℕ) (ids : List CopyId) (limits : Limits) (choice : MemberChoice) (now birth : ℕ) (ns : List ℕ) (n : ℕ) (r : Receiver) (b : Broker)
+pub late_goes_on : (largest : ℕ) (ids : List CopyId) (limits : Capacity) (choice : MemberChoice) (now birth : ℕ) (ns : List ℕ) (n : ℕ) (r : Receiver) (b : Broker)
     → RunsFor largest ids birth r b → IsServed r.client birth ns b → IsOverdue n (at_moment now b)
     → RunsFor largest ids birth (receiver_called limits choice now Tick r b) (stepped limits choice now Tick b) × IsServed r.client birth ns (stepped limits choice now Tick b)
 late_goes_on largest ids limits choice now birth ns n r b f v late =

@@ -43,7 +43,7 @@ use Rattle.mqtt_rules.specs.step.Outbound.{of_entry, turn_deeds}
 use Rattle.mqtt_rules.specs.step.Packets as packets
 use Rattle.mqtt_rules.specs.step.State.{Line as BrokerLine, Broker, Env, MemberChoice, is_of, queue_on, session_at, session_named}
 use Rattle.mqtt_rules.specs.step.Step.{Input, at_moment, deeds, env_of, next_packet, stepped, told}
-use Rattle.mqtt_rules.specs.declared.step.Limits.{Limits}
+use Rattle.mqtt_rules.specs.declared.step.Capacity.{Capacity}
 use Rattle.mqtt_records.specs.state.Records.{changed_all}
 use Rattle.mqtt_rules.proofs.step_lemmas.numbers.Copies.{each_append}
 use Rattle.mqtt_world_laws.specs.receiver.Entering.{AreKnown, IsReceiving, Receives}
@@ -281,7 +281,7 @@ ids_by (Err fault) copies = refl
 
 -- ---- the step
 
-module _ (number : Numbering) (largest : ℕ) (copies : List Lot) (limits : Limits) (choice : MemberChoice) (now : ℕ) (a : Answer) (rest : List Back) (r : Receiver)
+module _ (number : Numbering) (largest : ℕ) (copies : List Lot) (limits : Capacity) (choice : MemberChoice) (now : ℕ) (a : Answer) (rest : List Back) (r : Receiver)
     (l : BrokerLine) (s : Session) (b : Broker) (still : still_standing copies ≡ map (lot_on l.went) s.queue) (c : IsListening r l s b) (up : r.line.up ≡ answers a ∷ rest) where
   abbrev pub n : ℕ
   n = l.number
@@ -621,7 +621,7 @@ hop_answers_old (pubrec i code) rest w none = refl
 hop_answers_old (pubcomp i code) rest w none = refl
 
 -- its event for an answer of the receiver's line
-pub answer_comes : (number : Numbering) (largest : ℕ) (copies : List Lot) (limits : Limits) (choice : MemberChoice) (now : ℕ) (a : Answer) (rest : List Back) (r : Receiver) (l : BrokerLine) (s : Session) (b : Broker)
+pub answer_comes : (number : Numbering) (largest : ℕ) (copies : List Lot) (limits : Capacity) (choice : MemberChoice) (now : ℕ) (a : Answer) (rest : List Back) (r : Receiver) (l : BrokerLine) (s : Session) (b : Broker)
     → HasNoConnect (a ∷ []) → IsRun number largest copies r b → IsListening r l s b → r.line.up ≡ answers a ∷ rest
     → step largest (seen number copies r b) (to_broker false) ≡ replied (reply_to a (queue_on l.went s)) (filter_map answered rest) (seen number copies r b)
 answer_comes number largest copies limits choice now a rest r l s b none h c up =
@@ -631,7 +631,7 @@ answer_comes number largest copies limits choice now a rest r l s b none h c up 
     ∙ ap (λ (es : List FlowEntry). replied (reply_to a es) (filter_map answered rest) w) (same_queue number largest copies limits choice now a rest r l s b (standing_by copies r l s b h.queue_is c) c up))
 
 -- what the receiver and its session see of the answer follows from that event
-pub answers_follow : (number : Numbering) (largest : ℕ) (copies : List Lot) (limits : Limits) (choice : MemberChoice) (now : ℕ) (a : Answer) (rest : List Back) (r : Receiver) (l : BrokerLine) (s : Session) (b : Broker)
+pub answers_follow : (number : Numbering) (largest : ℕ) (copies : List Lot) (limits : Capacity) (choice : MemberChoice) (now : ℕ) (a : Answer) (rest : List Back) (r : Receiver) (l : BrokerLine) (s : Session) (b : Broker)
     → HasNoConnect (a ∷ []) → IsRun number largest copies r b → IsListening r l s b → r.line.up ≡ answers a ∷ rest
     → Follows number largest copies (to_broker false) r b (reads_answer limits choice now l.number a r b) (after_answer limits choice now l.number a r b)
 answers_follow number largest copies limits choice now a rest r l s b none h c up =
@@ -641,7 +641,7 @@ answers_follow number largest copies limits choice now a rest r l s b none h c u
     (answer_comes number largest copies limits choice now a rest r l s b none h c up)
 
 -- so it is a run of their hop again
-pub answers_run : (number : Numbering) (largest : ℕ) (copies : List Lot) (limits : Limits) (choice : MemberChoice) (now : ℕ) (a : Answer) (rest : List Back) (r : Receiver) (l : BrokerLine) (s : Session) (b : Broker)
+pub answers_run : (number : Numbering) (largest : ℕ) (copies : List Lot) (limits : Capacity) (choice : MemberChoice) (now : ℕ) (a : Answer) (rest : List Back) (r : Receiver) (l : BrokerLine) (s : Session) (b : Broker)
     → HasNoConnect (a ∷ []) → IsRun number largest copies r b → IsListening r l s b → r.line.up ≡ answers a ∷ rest
     → RunsOn number largest copies (reads_answer limits choice now l.number a r b) (after_answer limits choice now l.number a r b)
 answers_run number largest copies limits choice now a rest r l s b none h c up =
@@ -649,7 +649,7 @@ answers_run number largest copies limits choice now a rest r l s b none h c up =
     (answers_follow number largest copies limits choice now a rest r l s b none h c up)
 
 -- and its session may receive more
-pub answers_receive : (number : Numbering) (largest : ℕ) (copies : List Lot) (limits : Limits) (choice : MemberChoice) (now : ℕ) (a : Answer) (rest : List Back) (r : Receiver) (l : BrokerLine) (s : Session) (b : Broker)
+pub answers_receive : (number : Numbering) (largest : ℕ) (copies : List Lot) (limits : Capacity) (choice : MemberChoice) (now : ℕ) (a : Answer) (rest : List Back) (r : Receiver) (l : BrokerLine) (s : Session) (b : Broker)
     → HasNoConnect (a ∷ []) → IsRun number largest copies r b → IsListening r l s b → IsReceiving r s b → r.line.up ≡ answers a ∷ rest
     → Receives (reads_answer limits choice now l.number a r b) (after_answer limits choice now l.number a r b)
 answers_receive number largest copies limits choice now a rest r l s b none h c x up =

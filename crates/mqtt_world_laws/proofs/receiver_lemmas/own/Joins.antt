@@ -5,7 +5,7 @@ use Rattle.mqtt_flow.specs.outbound.OutboundWorld.{Lot, World as Hop, make_line,
 use Rattle.mqtt_flow.specs.outbound.Receiver.{connect, joins}
 use Rattle.mqtt_flow.specs.inbound.Line.{Link, away, asked}
 use Rattle.mqtt_records.specs.declared.state.session.Session.{Session}
-use Rattle.mqtt_rules.specs.declared.step.Limits.{Limits}
+use Rattle.mqtt_rules.specs.declared.step.Capacity.{Capacity}
 use Rattle.mqtt_rules.specs.step.State.{Line as BrokerLine, Broker, MemberChoice, is_of, session_named}
 use Rattle.mqtt_rules.specs.step.Deeds.{Link as Linked, fresh_line, after}
 use Rattle.mqtt_rules.specs.step.Step.{NewLine, Outcome, at_moment, stepped, told}
@@ -31,8 +31,8 @@ queued_same copies n now b None h = h
 queued_same copies n now b (Some s) h = subst (λ (l : Option BrokerLine). StandOn copies s.queue (option_map (λ (x : BrokerLine). x.went) l)) (sym (fresh_of_none s.birth n (at_moment now b).now b.lines)) h
 
 -- connecting on it goes on with the hop
-pub doing_joins : (number : Numbering) (largest : ℕ) (copies : List Lot) (limits : Limits) (choice : MemberChoice) (now : ℕ) (clean : Bool) (r : Receiver) (b : Broker)
-    → IsRun number largest copies r b → MayComeBack clean r b → IsRun number largest copies (receiver_joined limits choice now clean r b) (stepped limits choice now NewLine b)
+pub doing_joins : (number : Numbering) (largest : ℕ) (copies : List Lot) (limits : Capacity) (choice : MemberChoice) (now : ℕ) (clean : Bool) (r : Receiver) (b : Broker)
+    → IsRun number largest copies r b → MayComeBack limits clean r b → IsRun number largest copies (receiver_joined limits choice now clean r b) (stepped limits choice now NewLine b)
 doing_joins number largest copies limits choice now clean r b h may =
     let new = stepped limits choice now NewLine b in
     let is = new_is limits choice now b may.can in

@@ -13,7 +13,7 @@ use Rattle.mqtt_records.specs.declared.state.session.Session.{Session}
 use Rattle.mqtt_rules.specs.step.Deeds.{At, Close, Deed, Gone, after_all, closing, rows_of_all, whose}
 use Rattle.mqtt_rules.specs.step.State.{Line as BrokerLine, Broker, MemberChoice, session_at, session_named}
 use Rattle.mqtt_rules.specs.step.Step.{Lost, at_moment, deeds, stepped}
-use Rattle.mqtt_rules.specs.declared.step.Limits.{Limits}
+use Rattle.mqtt_rules.specs.declared.step.Capacity.{Capacity}
 use Rattle.mqtt_world_laws.specs.receiver.Entering.{AreKnown, Receives}
 use Rattle.mqtt_world_laws.specs.receiver.Handing.{IsListening, IsRun, receiver_lost}
 use Rattle.mqtt_world_laws.specs.receiver.Seen.{AreQueued, Numbering, StandOn, answered, seen, went_in}
@@ -23,7 +23,7 @@ use Rattle.mqtt_world_laws.proofs.receiver_lemmas.queue.Known.{receives_after}
 use Rattle.mqtt_world_laws.proofs.receiver_lemmas.queue.Turns.{renewed_lots}
 
 -- the loss of its line goes on with the hop
-pub losing_runs : (number : Numbering) (largest : ℕ) (copies : List Lot) (limits : Limits) (choice : MemberChoice) (now : ℕ) (r : Receiver) (l : BrokerLine) (s : Session) (b : Broker)
+pub losing_runs : (number : Numbering) (largest : ℕ) (copies : List Lot) (limits : Capacity) (choice : MemberChoice) (now : ℕ) (r : Receiver) (l : BrokerLine) (s : Session) (b : Broker)
     → IsRun number largest copies r b → IsListening r l s b
     → IsRun number largest copies (receiver_lost limits choice now l.number r b) (stepped limits choice now (Lost l.number) b)
 losing_runs number largest copies limits choice now r l s b h x =
@@ -60,7 +60,7 @@ losing_runs number largest copies limits choice now r l s b h x =
     }
 
 -- without a line, its session may receive more
-pub losing_receives : (limits : Limits) (choice : MemberChoice) (now : ℕ) (r : Receiver) (l : BrokerLine) (s : Session) (b : Broker)
+pub losing_receives : (limits : Capacity) (choice : MemberChoice) (now : ℕ) (r : Receiver) (l : BrokerLine) (s : Session) (b : Broker)
     → IsListening r l s b → Receives (receiver_lost limits choice now l.number r b) (stepped limits choice now (Lost l.number) b)
 losing_receives limits choice now r l s b x =
     let ds = deeds limits choice now (Lost l.number) b in

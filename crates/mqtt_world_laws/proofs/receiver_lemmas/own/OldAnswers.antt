@@ -21,7 +21,7 @@ use Rattle.mqtt_rules.specs.step.Deeds.{Accept, At, Begin, Count, Deed, Finish, 
 use Rattle.mqtt_rules.specs.step.Inbound.{on_answer}
 use Rattle.mqtt_rules.specs.step.State.{Line as BrokerLine, Broker, MemberChoice, queue_on, session_named}
 use Rattle.mqtt_rules.specs.step.Step.{Input, at_moment, deeds, env_of, next_packet, stepped}
-use Rattle.mqtt_rules.specs.declared.step.Limits.{Limits}
+use Rattle.mqtt_rules.specs.declared.step.Capacity.{Capacity}
 use Rattle.mqtt_world_model.proofs.model_lemmas.own.OwnStep.{heard_of, not_the_one}
 use Rattle.mqtt_world_laws.specs.receiver.Calls.{IsLingering, reads_old_answer, turned_back}
 use Rattle.mqtt_world_laws.specs.receiver.Entering.{AreKnown, IsReceiving, Receives}
@@ -85,7 +85,7 @@ one_closed : (n : ℕ) (shut : Bool) → is_one_of (Some n) (cond shut (n ∷ []
 one_closed n true = rw (nat_eq_equiv.refl n) refl
 one_closed n false = refl
 
-module _ (number : Numbering) (largest : ℕ) (copies : List Lot) (limits : Limits) (choice : MemberChoice) (now : ℕ) (a : Answer) (rest : List Back) (r : Receiver)
+module _ (number : Numbering) (largest : ℕ) (copies : List Lot) (limits : Capacity) (choice : MemberChoice) (now : ℕ) (a : Answer) (rest : List Back) (r : Receiver)
     (l : BrokerLine) (s : Session) (b : Broker) (h : IsRun number largest copies r b) (c : IsLingering r l s b) (old : r.line.old ≡ answers a ∷ rest) where
   abbrev n : ℕ
   n = l.number
@@ -201,7 +201,7 @@ module _ (number : Numbering) (largest : ℕ) (copies : List Lot) (limits : Limi
 -- ---- PUBACK, PUBREC and PUBCOMP
 
 -- what the receiver and its session see is a run of their hop again
-pub old_answers_run : (number : Numbering) (largest : ℕ) (copies : List Lot) (limits : Limits) (choice : MemberChoice) (now : ℕ) (a : Answer) (rest : List Back) (r : Receiver) (l : BrokerLine) (s : Session) (b : Broker)
+pub old_answers_run : (number : Numbering) (largest : ℕ) (copies : List Lot) (limits : Capacity) (choice : MemberChoice) (now : ℕ) (a : Answer) (rest : List Back) (r : Receiver) (l : BrokerLine) (s : Session) (b : Broker)
     → HasNoConnect (a ∷ []) → IsRun number largest copies r b → IsLingering r l s b → r.line.old ≡ answers a ∷ rest
     → RunsOn number largest copies (reads_old_answer limits choice now l.number a r b) (after_answer limits choice now l.number a r b)
 old_answers_run number largest copies limits choice now a rest r l s b none h c old =
@@ -213,7 +213,7 @@ old_answers_run number largest copies limits choice now a rest r l s b none h c 
     ∙ ap (λ (es : List FlowEntry). replied_old (reply_to a es) (filter_map answered rest) w) (same_entries copies l.went s.queue (standing_by copies (turned_back r) l s b h.queue_is c))))
 
 -- and its session may receive more
-pub old_answers_receive : (number : Numbering) (largest : ℕ) (copies : List Lot) (limits : Limits) (choice : MemberChoice) (now : ℕ) (a : Answer) (rest : List Back) (r : Receiver) (l : BrokerLine) (s : Session) (b : Broker)
+pub old_answers_receive : (number : Numbering) (largest : ℕ) (copies : List Lot) (limits : Capacity) (choice : MemberChoice) (now : ℕ) (a : Answer) (rest : List Back) (r : Receiver) (l : BrokerLine) (s : Session) (b : Broker)
     → HasNoConnect (a ∷ []) → IsRun number largest copies r b → IsLingering r l s b → IsReceiving r s b → r.line.old ≡ answers a ∷ rest
     → Receives (reads_old_answer limits choice now l.number a r b) (after_answer limits choice now l.number a r b)
 old_answers_receive number largest copies limits choice now a rest r l s b none h c x old =

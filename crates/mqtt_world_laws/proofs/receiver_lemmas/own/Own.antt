@@ -26,7 +26,7 @@ use Rattle.mqtt_rules.specs.step.Deeds.{At, Begin, Close, Deed, DropWill, Enter,
 use Rattle.mqtt_rules.specs.step.Outbound.{all_turn_deeds, of_entry, turn_deeds}
 use Rattle.mqtt_rules.specs.step.State.{Line as BrokerLine, Broker, MemberChoice, session_at}
 use Rattle.mqtt_rules.specs.step.Step.{Call, at_moment, deeds, stepped}
-use Rattle.mqtt_rules.specs.declared.step.Limits.{Limits}
+use Rattle.mqtt_rules.specs.declared.step.Capacity.{Capacity}
 use Rattle.mqtt_world_laws.specs.receiver.Entering.{IsReceiving, Receives}
 use Rattle.mqtt_world_laws.specs.receiver.Handing.{RunsOn}
 use Rattle.mqtt_world_laws.specs.receiver.Own.{RunsAlone}
@@ -154,7 +154,7 @@ module _ (client : List ℕ) (birth : ℕ) (ns : List ℕ) where
   safe_served (d ∷ ds) b q h = safe_served ds (after d b) q.1 (safe_deed d b q.0 h)
 
   -- a call of such deeds leaves session and lines the receiver's own
-  pub call_served : (limits : Limits) (choice : MemberChoice) (now : ℕ) (call : Call) (b : Broker) → AreSafe (deeds limits choice now call b) → IsServed client birth ns b
+  pub call_served : (limits : Capacity) (choice : MemberChoice) (now : ℕ) (call : Call) (b : Broker) → AreSafe (deeds limits choice now call b) → IsServed client birth ns b
       → IsServed client birth ns (stepped limits choice now call b)
   call_served limits choice now call b q v =
       let first = at_moment now b in

@@ -17,7 +17,7 @@ use Rattle.mqtt_rules.specs.step.Fitting.{pump_turns}
 use Rattle.mqtt_rules.specs.step.Inbound.{on_answer}
 use Rattle.mqtt_rules.specs.step.State.{Line as BrokerLine, Broker, Env, MemberChoice, queue_on, session_at}
 use Rattle.mqtt_rules.specs.step.Step.{Input, Lost, Pump, at_moment, env_of, next_packet, stepped}
-use Rattle.mqtt_rules.specs.declared.step.Limits.{Limits}
+use Rattle.mqtt_rules.specs.declared.step.Capacity.{Capacity}
 use Rattle.mqtt_rules.specs.whole.Whole.{FitsWhole}
 use Rattle.mqtt_world_laws.specs.receiver.Calls.{IsLingering, reads_old_answer, receiver_called, turned_back}
 use Rattle.mqtt_world_laws.specs.receiver.Handing.{IsListening, after_answer, reads_answer, receiver_lost}
@@ -38,7 +38,7 @@ module _ (client : List ℕ) (birth : ℕ) (ns : List ℕ) (r : Receiver) (l : B
   answer_safe env (Err fault) c at = subst (AreSafe client birth ns) (sym (drop_is env protocol_error l s c at a.connected a.no_will a.no_end)) (tt, (tt, (tt, tt)))
 
   -- an answer leaves session and lines the receiver's own
-  pub answer_served : (limits : Limits) (choice : MemberChoice) (now : ℕ) (packet : Packet) (x : rules.Answer)
+  pub answer_served : (limits : Capacity) (choice : MemberChoice) (now : ℕ) (packet : Packet) (x : rules.Answer)
       → next_packet (env_of limits choice b) l packet s (heard_of now l.number b) ≡ on_answer x (env_of limits choice b) l s (heard_of now l.number b)
       → IsServed client birth ns b → IsServed client birth ns (stepped limits choice now (Input l.number packet) b)
   answer_served limits choice now packet x e v =
@@ -49,7 +49,7 @@ module _ (client : List ℕ) (birth : ℕ) (ns : List ℕ) (r : Receiver) (l : B
       (subst (AreSafe client birth ns) (sym (input_is limits choice now packet l s b a.line a.connected a.session)) (tt, each_append (IsSafe client birth ns) (next_packet env l packet s c) [] own tt)) v
 
 -- PUBACK, PUBREC and PUBCOMP on its line
-pub answers_in_step : (largest : ℕ) (ids : List CopyId) (birth : ℕ) (ns : List ℕ) (limits : Limits) (choice : MemberChoice) (now : ℕ) (x : Answer) (rest : List Back) (r : Receiver) (l : BrokerLine) (s : Session) (b : Broker)
+pub answers_in_step : (largest : ℕ) (ids : List CopyId) (birth : ℕ) (ns : List ℕ) (limits : Capacity) (choice : MemberChoice) (now : ℕ) (x : Answer) (rest : List Back) (r : Receiver) (l : BrokerLine) (s : Session) (b : Broker)
     → HasNoConnect (x ∷ []) → IsInStep largest ids birth ns r b → IsListening r l s b → r.line.up ≡ answers x ∷ rest
     → IsInStep largest ids birth ns (reads_answer limits choice now l.number x r b) (after_answer limits choice now l.number x r b)
 answers_in_step largest ids birth ns limits choice now x rest r l s b none k a up =
@@ -65,7 +65,7 @@ answers_in_step largest ids birth ns limits choice now x rest r l s b none k a u
     }
 
 -- and on the line that it gave up
-pub old_answers_in_step : (largest : ℕ) (ids : List CopyId) (birth : ℕ) (ns : List ℕ) (limits : Limits) (choice : MemberChoice) (now : ℕ) (x : Answer) (rest : List Back) (r : Receiver) (l : BrokerLine) (s : Session) (b : Broker)
+pub old_answers_in_step : (largest : ℕ) (ids : List CopyId) (birth : ℕ) (ns : List ℕ) (limits : Capacity) (choice : MemberChoice) (now : ℕ) (x : Answer) (rest : List Back) (r : Receiver) (l : BrokerLine) (s : Session) (b : Broker)
     → HasNoConnect (x ∷ []) → IsInStep largest ids birth ns r b → IsLingering r l s b → r.line.old ≡ answers x ∷ rest
     → IsInStep largest ids birth ns (reads_old_answer limits choice now l.number x r b) (after_answer limits choice now l.number x r b)
 old_answers_in_step largest ids birth ns limits choice now x rest r l s b none k a old =
@@ -83,7 +83,7 @@ old_answers_in_step largest ids birth ns limits choice now x rest r l s b none k
 -- ---- sending, and the loss of its line
 
 -- a pump leaves it in step
-pub pump_in_step : (largest : ℕ) (ids : List CopyId) (birth : ℕ) (ns : List ℕ) (limits : Limits) (choice : MemberChoice) (now : ℕ) (r : Receiver) (l : BrokerLine) (s : Session) (b : Broker)
+pub pump_in_step : (largest : ℕ) (ids : List CopyId) (birth : ℕ) (ns : List ℕ) (limits : Capacity) (choice : MemberChoice) (now : ℕ) (r : Receiver) (l : BrokerLine) (s : Session) (b : Broker)
     → IsInStep largest ids birth ns r b → IsListening r l s b → l.largest ≡ largest → FitsWhole l s → HasDistinctIdentifiers b.records
     → IsInStep largest ids birth ns (receiver_called limits choice now (Pump l.number) r b) (stepped limits choice now (Pump l.number) b)
 pump_in_step largest ids birth ns limits choice now r l s b k a fits whole distinct =
@@ -99,7 +99,7 @@ pump_in_step largest ids birth ns limits choice now r l s b k a fits whole disti
     }
 
 -- so does the loss of its line
-pub loss_in_step : (largest : ℕ) (ids : List CopyId) (birth : ℕ) (ns : List ℕ) (limits : Limits) (choice : MemberChoice) (now : ℕ) (r : Receiver) (l : BrokerLine) (s : Session) (b : Broker)
+pub loss_in_step : (largest : ℕ) (ids : List CopyId) (birth : ℕ) (ns : List ℕ) (limits : Capacity) (choice : MemberChoice) (now : ℕ) (r : Receiver) (l : BrokerLine) (s : Session) (b : Broker)
     → IsInStep largest ids birth ns r b → IsListening r l s b
     → IsInStep largest ids birth ns (receiver_lost limits choice now l.number r b) (stepped limits choice now (Lost l.number) b)
 loss_in_step largest ids birth ns limits choice now r l s b k a =

@@ -23,7 +23,7 @@ use Rattle.mqtt_rules.specs.step.Deeds.{Link as Linked, after, fresh_line}
 use Rattle.mqtt_rules.specs.step.Lines.{line_number}
 use Rattle.mqtt_rules.specs.step.State.{Line as BrokerLine, Broker, MemberChoice, session_named}
 use Rattle.mqtt_rules.specs.step.Step.{NewLine, at_moment, stepped}
-use Rattle.mqtt_rules.specs.declared.step.Limits.{Limits}
+use Rattle.mqtt_rules.specs.declared.step.Capacity.{Capacity}
 use Rattle.mqtt_world_laws.specs.receiver.Entering.{AreKnown, IsReceiving}
 use Rattle.mqtt_world_laws.specs.receiver.Handing.{IsRun, MayComeBack, receiver_joined}
 use Rattle.mqtt_world_laws.specs.receiver.Own.{IsAwaiting, IsFreeLine, IsInStep}
@@ -207,7 +207,7 @@ module _ (ns : List ℕ) (m : ℕ) where
   free_linked now [] low h = ((λ inside. refl), tt)
   free_linked now (l ∷ ls) low h = ((λ inside. h.0 (narrows l.number (unlike l low.0) inside)), free_linked now ls low.1 h.1)
 
-  lines_joined : (limits : Limits) (choice : MemberChoice) (now : ℕ) (clean : Bool) (r : Receiver) (b : Broker) → suc b.given ≡ m → HasLines ns r → HasLines wider (receiver_joined limits choice now clean r b)
+  lines_joined : (limits : Capacity) (choice : MemberChoice) (now : ℕ) (clean : Bool) (r : Receiver) (b : Broker) → suc b.given ≡ m → HasLines ns r → HasLines wider (receiver_joined limits choice now clean r b)
   lines_joined limits choice now clean r b is h = record {
     own = λ n e. let same : suc b.given ≡ n = cc in let here : m ≡ n = sym is ∙ same in subst (λ (k : ℕ). is_one_of (Some k) wider ≡ true) here first;
     old = λ n e. widens n (h.old n e);
@@ -217,8 +217,8 @@ module _ (ns : List ℕ) (m : ℕ) where
       first = rw (nat_eq_equiv.refl m) refl
 
 -- connecting leaves it in step
-pub joins_in_step : (largest : ℕ) (ids : List CopyId) (birth : ℕ) (ns : List ℕ) (limits : Limits) (choice : MemberChoice) (now : ℕ) (clean : Bool) (r : Receiver) (b : Broker)
-    → IsInStep largest ids birth ns r b → MayComeBack clean r b
+pub joins_in_step : (largest : ℕ) (ids : List CopyId) (birth : ℕ) (ns : List ℕ) (limits : Capacity) (choice : MemberChoice) (now : ℕ) (clean : Bool) (r : Receiver) (b : Broker)
+    → IsInStep largest ids birth ns r b → MayComeBack limits clean r b
     → IsInStep largest ids birth (suc b.given ∷ ns) (receiver_joined limits choice now clean r b) (stepped limits choice now NewLine b)
 joins_in_step largest ids birth ns limits choice now clean r b k may =
     let m = suc b.given in
@@ -255,8 +255,8 @@ joins_in_step largest ids birth ns limits choice now clean r b k may =
     }
 
 -- or waiting, if it was
-pub joins_awaiting : (largest : ℕ) (ids : List CopyId) (ns : List ℕ) (limits : Limits) (choice : MemberChoice) (now : ℕ) (clean : Bool) (r : Receiver) (b : Broker)
-    → IsAwaiting largest ids ns r b → MayComeBack clean r b
+pub joins_awaiting : (largest : ℕ) (ids : List CopyId) (ns : List ℕ) (limits : Capacity) (choice : MemberChoice) (now : ℕ) (clean : Bool) (r : Receiver) (b : Broker)
+    → IsAwaiting largest ids ns r b → MayComeBack limits clean r b
     → IsAwaiting largest ids (suc b.given ∷ ns) (receiver_joined limits choice now clean r b) (stepped limits choice now NewLine b)
 joins_awaiting largest ids ns limits choice now clean r b k may =
     let m = suc b.given in

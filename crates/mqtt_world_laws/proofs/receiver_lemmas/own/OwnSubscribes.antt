@@ -57,7 +57,7 @@ use Rattle.mqtt_rules.specs.step.State.{Line as BrokerLine, Broker, Env, MemberC
 use Rattle.mqtt_rules.specs.step.Step.{Call, Input, at_moment, deeds as deeds_in, env_of, outcome_of, stepped, with_moment}
 use Rattle.mqtt_rules.specs.step.Subscribe.{on_subscribe}
 use Rattle.mqtt_rules.specs.step.Subscribe as sub
-use Rattle.mqtt_rules.specs.declared.step.Limits.{Limits}
+use Rattle.mqtt_rules.specs.declared.step.Capacity.{Capacity}
 use Rattle.mqtt_packet.specs.declared.subscribe.subscribe.Subscribe.{Subscribe as Asking}
 use Rattle.mqtt_topic.specs.names.Filters.{is_filter}
 use Rattle.mqtt_world_laws.proofs.acceptance_lemmas.copies.CopiesApart.{brought_differ, number_of, queued_differ}
@@ -643,7 +643,7 @@ abbrev pub asking : Wish → Receiver → ℕ → Call
 asking w r n = Input n (wire_back r.client r.window r.aliases (asks_for w))
 
 -- what it brings, on whatever line
-pub record Brings (largest : ℕ) (ids : List CopyId) (limits : Limits) (choice : MemberChoice) (now birth : ℕ) (ns : List ℕ) (w : Wish) (r : Receiver) (n : ℕ) (b : Broker) : Type 0 where
+pub record Brings (largest : ℕ) (ids : List CopyId) (limits : Capacity) (choice : MemberChoice) (now birth : ℕ) (ns : List ℕ) (w : Wish) (r : Receiver) (n : ℕ) (b : Broker) : Type 0 where
   pub more : List CopyId
   pub new : AllByRecursion (IsBroughtCopy birth (suc b.records.subscribes)) more
   pub runs : RunsFor largest (ids ++ more) birth r (stepped limits choice now (asking w r n) b)
@@ -655,7 +655,7 @@ pub record Brings (largest : ℕ) (ids : List CopyId) (limits : Limits) (choice 
   pub apart : AreRetainedApart b → AreToldApart more (stepped limits choice now (asking w r n) b).records
 
 -- with its session connected on the line of this receiver of its name
-pub brings : (largest : ℕ) (ids : List CopyId) (limits : Limits) (choice : MemberChoice) (now birth : ℕ) (ns : List ℕ) (w : Wish) (r there : Receiver) (l : BrokerLine) (s : Session) (b : Broker)
+pub brings : (largest : ℕ) (ids : List CopyId) (limits : Capacity) (choice : MemberChoice) (now birth : ℕ) (ns : List ℕ) (w : Wish) (r there : Receiver) (l : BrokerLine) (s : Session) (b : Broker)
     → IsInStep largest ids birth ns r b → there.client ≡ r.client → IsListening there l s b → IsTidy limits b → Brings largest ids limits choice now birth ns w r l.number b
 brings largest ids limits choice now birth ns w r there l s b k name a tidy =
     let env = env_of limits choice b in
@@ -723,7 +723,7 @@ brings largest ids limits choice now birth ns w r there l s b k name a tidy =
     }
 
 -- the two are in step, with copies that differ, if no two retained messages are of one publication
-pub record Wished (largest : ℕ) (ids : List CopyId) (limits : Limits) (choice : MemberChoice) (now birth : ℕ) (ns : List ℕ) (w : Wish) (r : Receiver) (n : ℕ) (b : Broker) : Type 0 where
+pub record Wished (largest : ℕ) (ids : List CopyId) (limits : Capacity) (choice : MemberChoice) (now birth : ℕ) (ns : List ℕ) (w : Wish) (r : Receiver) (n : ℕ) (b : Broker) : Type 0 where
   pub after : Subscribed largest ids birth ns (suc b.records.subscribes) (receiver_after limits choice now (Input n (wire_back r.client r.window r.aliases (asks_for w))) r b) (stepped limits choice now (Input n (wire_back r.client r.window r.aliases (asks_for w))) b)
   pub longer : (most : ℕ) → IsUpTo birth most b → IsUpTo birth (most + length after.more) (stepped limits choice now (Input n (wire_back r.client r.window r.aliases (asks_for w))) b)
   pub lots : (number : Numbering) (copies : List Lot) → AreNumbered number (ids ++ after.more) → IsRun number largest copies r b → map id_of copies ≡ ids
@@ -732,7 +732,7 @@ pub record Wished (largest : ℕ) (ids : List CopyId) (limits : Limits) (choice 
   pub apart : AreRetainedApart b → AreToldApart after.more (stepped limits choice now (Input n (wire_back r.client r.window r.aliases (asks_for w))) b).records
 
 -- a subscription brings the copies that the definition has
-pub wished : (largest : ℕ) (ids : List CopyId) (limits : Limits) (choice : MemberChoice) (now birth : ℕ) (ns : List ℕ) (w : Wish) (rest : List Back) (r : Receiver) (l : BrokerLine) (s : Session) (b : Broker)
+pub wished : (largest : ℕ) (ids : List CopyId) (limits : Capacity) (choice : MemberChoice) (now birth : ℕ) (ns : List ℕ) (w : Wish) (rest : List Back) (r : Receiver) (l : BrokerLine) (s : Session) (b : Broker)
     → IsInStep largest ids birth ns r b → IsListening r l s b → IsTidy limits b → r.line.up ≡ asks_for w ∷ rest → Wished largest ids limits choice now birth ns w r l.number b
 wished largest ids limits choice now birth ns w rest r l s b k a tidy up =
     let call = asking w r l.number in
@@ -757,7 +757,7 @@ wished largest ids limits choice now birth ns w rest r l s b k a tidy up =
     }
 
 -- with what tells them apart
-pub subscribes_apart : (largest : ℕ) (ids : List CopyId) (limits : Limits) (choice : MemberChoice) (now birth : ℕ) (ns : List ℕ) (w : Wish) (rest : List Back) (r : Receiver) (l : BrokerLine) (s : Session) (b : Broker)
+pub subscribes_apart : (largest : ℕ) (ids : List CopyId) (limits : Capacity) (choice : MemberChoice) (now birth : ℕ) (ns : List ℕ) (w : Wish) (rest : List Back) (r : Receiver) (l : BrokerLine) (s : Session) (b : Broker)
     → IsInStep largest ids birth ns r b → IsListening r l s b → IsTidy limits b → r.line.up ≡ asks_for w ∷ rest
     → (x : Subscribed largest ids birth ns (suc b.records.subscribes) (receiver_after limits choice now (Input l.number (wire_back r.client r.window r.aliases (asks_for w))) r b) (stepped limits choice now (Input l.number (wire_back r.client r.window r.aliases (asks_for w))) b))
     × (AreRetainedApart b → AreToldApart x.more (stepped limits choice now (Input l.number (wire_back r.client r.window r.aliases (asks_for w))) b).records)
@@ -766,13 +766,13 @@ subscribes_apart largest ids limits choice now birth ns w rest r l s b k a tidy 
     (x.after, x.apart)
 
 -- and leaves the receiver in step
-pub subscribes_in_step : (largest : ℕ) (ids : List CopyId) (limits : Limits) (choice : MemberChoice) (now birth : ℕ) (ns : List ℕ) (w : Wish) (rest : List Back) (r : Receiver) (l : BrokerLine) (s : Session) (b : Broker)
+pub subscribes_in_step : (largest : ℕ) (ids : List CopyId) (limits : Capacity) (choice : MemberChoice) (now birth : ℕ) (ns : List ℕ) (w : Wish) (rest : List Back) (r : Receiver) (l : BrokerLine) (s : Session) (b : Broker)
     → IsInStep largest ids birth ns r b → IsListening r l s b → IsTidy limits b → r.line.up ≡ asks_for w ∷ rest
     → Subscribed largest ids birth ns (suc b.records.subscribes) (receiver_after limits choice now (Input l.number (wire_back r.client r.window r.aliases (asks_for w))) r b) (stepped limits choice now (Input l.number (wire_back r.client r.window r.aliases (asks_for w))) b)
 subscribes_in_step largest ids limits choice now birth ns w rest r l s b k a tidy up = (wished largest ids limits choice now birth ns w rest r l s b k a tidy up).after
 
 -- on the line that it gave up
-pub old_subscribes_apart : (largest : ℕ) (ids : List CopyId) (limits : Limits) (choice : MemberChoice) (now birth : ℕ) (ns : List ℕ) (w : Wish) (rest : List Back) (r : Receiver) (l : BrokerLine) (s : Session) (b : Broker)
+pub old_subscribes_apart : (largest : ℕ) (ids : List CopyId) (limits : Capacity) (choice : MemberChoice) (now birth : ℕ) (ns : List ℕ) (w : Wish) (rest : List Back) (r : Receiver) (l : BrokerLine) (s : Session) (b : Broker)
     → IsInStep largest ids birth ns r b → IsLingering r l s b → IsTidy limits b → r.line.old ≡ asks_for w ∷ rest
     → (x : Subscribed largest ids birth ns (suc b.records.subscribes) (reads_old_wish limits choice now l.number w r b) (stepped limits choice now (Input l.number (wire_back r.client r.window r.aliases (asks_for w))) b))
     × (AreRetainedApart b → AreToldApart x.more (stepped limits choice now (Input l.number (wire_back r.client r.window r.aliases (asks_for w))) b).records)
@@ -793,7 +793,7 @@ old_subscribes_apart largest ids limits choice now birth ns w rest r l s b k a t
     )
 
 -- also on the old line
-pub old_subscribes_in_step : (largest : ℕ) (ids : List CopyId) (limits : Limits) (choice : MemberChoice) (now birth : ℕ) (ns : List ℕ) (w : Wish) (rest : List Back) (r : Receiver) (l : BrokerLine) (s : Session) (b : Broker)
+pub old_subscribes_in_step : (largest : ℕ) (ids : List CopyId) (limits : Capacity) (choice : MemberChoice) (now birth : ℕ) (ns : List ℕ) (w : Wish) (rest : List Back) (r : Receiver) (l : BrokerLine) (s : Session) (b : Broker)
     → IsInStep largest ids birth ns r b → IsLingering r l s b → IsTidy limits b → r.line.old ≡ asks_for w ∷ rest
     → Subscribed largest ids birth ns (suc b.records.subscribes) (reads_old_wish limits choice now l.number w r b) (stepped limits choice now (Input l.number (wire_back r.client r.window r.aliases (asks_for w))) b)
 old_subscribes_in_step largest ids limits choice now birth ns w rest r l s b k a tidy old = (old_subscribes_apart largest ids limits choice now birth ns w rest r l s b k a tidy old).0

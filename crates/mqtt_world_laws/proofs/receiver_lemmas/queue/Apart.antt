@@ -15,7 +15,7 @@ use Rattle.mqtt_rules.proofs.step_lemmas.numbers.NumberSteps.{step_fell}
 use Rattle.mqtt_rules.specs.step.Numbers.{HasAcceptedNumbers, NoneFell}
 use Rattle.mqtt_rules.specs.step.State.{Line as BrokerLine, Broker, MemberChoice}
 use Rattle.mqtt_rules.specs.step.Step.{Input, stepped}
-use Rattle.mqtt_rules.specs.declared.step.Limits.{Limits}
+use Rattle.mqtt_rules.specs.declared.step.Capacity.{Capacity}
 use Rattle.mqtt_world_laws.proofs.acceptance_lemmas.copies.Differ.{AreApart, differ_join}
 use Rattle.mqtt_world_laws.specs.receiver.Apart.{AreToldApart, HasCome}
 use Rattle.mqtt_world_laws.specs.receiver.Calls.{IsLingering}
@@ -61,7 +61,7 @@ apart_brought birth ids more old new h fell brought apart =
     record { come = each_append (HasCome new.publications new.subscribes) ids more first apart.come; differ = differ_join ids more h.differ apart.differ others }
 
 -- a subscription leaves copies told apart
-pub apart_subscribed : (largest : ℕ) (ids : List CopyId) (limits : Limits) (choice : MemberChoice) (now birth : ℕ) (ns : List ℕ) (w : Wish) (rest : List Back) (r : Receiver) (l : BrokerLine) (s : Session) (b : Broker)
+pub apart_subscribed : (largest : ℕ) (ids : List CopyId) (limits : Capacity) (choice : MemberChoice) (now birth : ℕ) (ns : List ℕ) (w : Wish) (rest : List Back) (r : Receiver) (l : BrokerLine) (s : Session) (b : Broker)
     → IsInStep largest ids birth ns r b → IsListening r l s b → IsTidy limits b → r.line.up ≡ asks_for w ∷ rest
     → AreToldApart ids b.records → AllDiffer (map (λ (k : RetainedMessage). k.publication) b.records.retained) → HasAcceptedNumbers b.records
     → (x : Subscribed largest ids birth ns (suc b.records.subscribes) (receiver_after limits choice now (Input l.number (wire_back r.client r.window r.aliases (asks_for w))) r b) (stepped limits choice now (Input l.number (wire_back r.client r.window r.aliases (asks_for w))) b))
@@ -73,7 +73,7 @@ apart_subscribed largest ids limits choice now birth ns w rest r l s b k a tidy 
     (both.0, apart_brought birth ids both.0.more b.records (stepped limits choice now call b).records apart (step_fell limits choice now call b) both.0.new told)
 
 -- also on the old line
-pub apart_old_subscribed : (largest : ℕ) (ids : List CopyId) (limits : Limits) (choice : MemberChoice) (now birth : ℕ) (ns : List ℕ) (w : Wish) (rest : List Back) (r : Receiver) (l : BrokerLine) (s : Session) (b : Broker)
+pub apart_old_subscribed : (largest : ℕ) (ids : List CopyId) (limits : Capacity) (choice : MemberChoice) (now birth : ℕ) (ns : List ℕ) (w : Wish) (rest : List Back) (r : Receiver) (l : BrokerLine) (s : Session) (b : Broker)
     → IsInStep largest ids birth ns r b → IsLingering r l s b → IsTidy limits b → r.line.old ≡ asks_for w ∷ rest
     → AreToldApart ids b.records → AllDiffer (map (λ (k : RetainedMessage). k.publication) b.records.retained) → HasAcceptedNumbers b.records
     → (x : Subscribed largest ids birth ns (suc b.records.subscribes) (reads_old_wish limits choice now l.number w r b) (stepped limits choice now (Input l.number (wire_back r.client r.window r.aliases (asks_for w))) b))

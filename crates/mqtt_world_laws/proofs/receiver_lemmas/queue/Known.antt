@@ -17,7 +17,7 @@ use Rattle.mqtt_records.specs.lists.Order.{change_row, has_row, remove_row, row_
 use Rattle.mqtt_rules.specs.step.Deeds.{after_all, rows_of_all}
 use Rattle.mqtt_rules.specs.step.State.{Line as BrokerLine, Broker, MemberChoice, is_of, session_at}
 use Rattle.mqtt_rules.specs.step.Step.{Call, at_moment, deeds, stepped}
-use Rattle.mqtt_rules.specs.declared.step.Limits.{Limits}
+use Rattle.mqtt_rules.specs.declared.step.Capacity.{Capacity}
 use Rattle.std.specs.Prelude.{find}
 use Rattle.std.specs.List.{AllByRecursion}
 use Rattle.mqtt_world_laws.specs.receiver.Entering.{AreKnown, Receives}
@@ -64,7 +64,7 @@ known_sent place queue (p ∷ ps) there h = (h.0, known_sent place queue ps ther
 -- ---- after a call
 
 -- behind a call the receiver's session is known
-pub receives_after : (r : Receiver) (birth : ℕ) (limits : Limits) (choice : MemberChoice) (now : ℕ) (call : Call) (b : Broker) (t : Session)
+pub receives_after : (r : Receiver) (birth : ℕ) (limits : Capacity) (choice : MemberChoice) (now : ℕ) (call : Call) (b : Broker) (t : Session)
     → session_at birth (after_all (deeds limits choice now call b) (at_moment now b)).records ≡ Some t → t.client ≡ r.client → t.birth ≡ birth
     → IsOnly r.client birth (after_all (deeds limits choice now call b) (at_moment now b)).records
     → AreKnown t.queue (went_in birth (after_all (deeds limits choice now call b) (at_moment now b))) → Receives r (stepped limits choice now call b)

@@ -29,7 +29,7 @@ use Rattle.mqtt_rules.specs.step.Inbound.{pump_deeds}
 use Rattle.mqtt_rules.specs.step.Outbound.{all_turn_deeds, way_of}
 use Rattle.mqtt_rules.specs.step.State.{Line as BrokerLine, Broker, MemberChoice, line_at, queue_on, session_at}
 use Rattle.mqtt_rules.specs.step.Step.{Pump, at_moment, deeds, on_pump, stepped}
-use Rattle.mqtt_rules.specs.declared.step.Limits.{Limits}
+use Rattle.mqtt_rules.specs.declared.step.Capacity.{Capacity}
 use Rattle.mqtt_rules.specs.whole.Whole.{FitsWhole}
 use Rattle.mqtt_rules.proofs.whole_lemmas.WholePumps.{whole_pump}
 use Rattle.mqtt_world_laws.specs.receiver.Calls.{receiver_called}
@@ -75,7 +75,7 @@ queue_granted number largest copies went queue r b h still =
 -- ---- the step
 
 -- a pump's deeds are those of its turns
-pub pump_is : (limits : Limits) (choice : MemberChoice) (now : ℕ) (l : BrokerLine) (s : Session) (b : Broker) → line_at l.number b ≡ Some l → l.session ≡ Some s.birth → session_at s.birth b.records ≡ Some s
+pub pump_is : (limits : Capacity) (choice : MemberChoice) (now : ℕ) (l : BrokerLine) (s : Session) (b : Broker) → line_at l.number b ≡ Some l → l.session ≡ Some s.birth → session_at s.birth b.records ≡ Some s
     → deeds limits choice now (Pump l.number) b ≡ pump_deeds l (at_moment now b) s
 pump_is limits choice now l s b line connected at =
     let first = at_moment now b in
@@ -90,7 +90,7 @@ none_of : (o : Option ℕ) → is_one_of o [] ≡ false
 none_of None = refl
 none_of (Some n) = refl
 
-module _ (number : Numbering) (largest : ℕ) (copies : List Lot) (limits : Limits) (choice : MemberChoice) (now : ℕ) (r : Receiver) (l : BrokerLine) (s : Session) (b : Broker)
+module _ (number : Numbering) (largest : ℕ) (copies : List Lot) (limits : Capacity) (choice : MemberChoice) (now : ℕ) (r : Receiver) (l : BrokerLine) (s : Session) (b : Broker)
     (h : IsRun number largest copies r b) (c : IsListening r l s b) (fits : l.largest ≡ largest) (whole : FitsWhole l s)
     (distinct : HasDistinctIdentifiers b.records) where
   abbrev n : ℕ

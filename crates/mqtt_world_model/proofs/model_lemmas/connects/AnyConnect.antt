@@ -6,7 +6,7 @@ use Rattle.mqtt_packet.specs.declared.connect.connect.Connect.{Connect as Greeti
 use Rattle.mqtt_packet.specs.declared.codec.packet.Packet.TheVariants.{Connect}
 use Rattle.mqtt_flow.specs.inbound.Publisher.{FromPublisher, CONNECT, ToPublisher}
 use Rattle.mqtt_flow.specs.inbound.InboundWorld.{Choice, Event as HopEvent, to_broker, on_connect as on_hop, broker_reads, step}
-use Rattle.mqtt_rules.specs.declared.step.Limits.{Limits}
+use Rattle.mqtt_rules.specs.declared.step.Capacity.{Capacity}
 use Rattle.mqtt_rules.specs.step.State.{MemberChoice, Line as BrokerLine, Broker, session_named, line_at}
 use Rattle.mqtt_rules.specs.step.Deeds.{Hear, Deed, On, closing, always, series, with_line}
 use Rattle.mqtt_rules.specs.step.Connect.{on_connect}
@@ -24,7 +24,7 @@ pub waits_on : (l : BrokerLine) (b : Broker) → line_at l.number b ≡ Some l �
 waits_on l b line waits = ap (option_map (λ (x : BrokerLine). x.session)) line ∙ ap Some waits
 
 -- the deeds of the call: the line is heard of, and the CONNECT is answered
-pub connect_call : (limits : Limits) (choice : MemberChoice) (now : ℕ) (c : Greeting) (l : BrokerLine) (b : Broker) → line_at l.number b ≡ Some l → l.session ≡ None
+pub connect_call : (limits : Capacity) (choice : MemberChoice) (now : ℕ) (c : Greeting) (l : BrokerLine) (b : Broker) → line_at l.number b ≡ Some l → l.session ≡ None
     → deeds limits choice now (Input l.number (Connect c)) b ≡ On l.number Hear ∷ on_connect (env_of limits choice b) l c (heard_of now l.number b)
 connect_call limits choice now c l b line waits =
     let env = env_of limits choice b in
@@ -40,13 +40,13 @@ left_up n ds closings p packet rest up is stays =
     ap (λ (t : Bool). filter_map shaken (unless_closed t (drop 1 p.line.up))) (ap (is_one_of (Some n)) is ∙ stays) ∙ ap (λ (xs : List Sent). filter_map shaken (drop 1 xs)) up
 
 -- what the publisher sees of it is this event of its hop
-abbrev pub Sees : Limits → MemberChoice → ℕ → Bool → Publisher → BrokerLine → Broker → List ℕ → HopEvent → Type 0
+abbrev pub Sees : Capacity → MemberChoice → ℕ → Bool → Publisher → BrokerLine → Broker → List ℕ → HopEvent → Type 0
 Sees limits choice now clean p l b accepted e =
     seen accepted (after_step limits choice now (Input l.number (connect_packet clean p)) p b) (stepped limits choice now (Input l.number (connect_packet clean p)) b)
     ≡ step (seen accepted p b) e
 
 -- which it is if the deeds show what the hop does
-pub connect_seen : (limits : Limits) (choice : MemberChoice) (now : ℕ) (clean : Bool) (p : Publisher) (rest : List Sent) (l : BrokerLine) (b : Broker) (accepted : List ℕ)
+pub connect_seen : (limits : Capacity) (choice : MemberChoice) (now : ℕ) (clean : Bool) (p : Publisher) (rest : List Sent) (l : BrokerLine) (b : Broker) (accepted : List ℕ)
     (pick : Choice) (stood linked : Bool) (up : List FromPublisher) (ps : List ToPublisher) (old : List FromPublisher) (stands : Bool) (ids : List ℕ)
     → p.line.up ≡ shake (CONNECT clean) ∷ rest → p.line.number ≡ Some l.number → is_some (session_named p.client b.records) ≡ stood
     → Shows p l.number (deeds limits choice now (Input l.number (connect_packet clean p)) b) (at_moment now b) linked up ps old stands ids

@@ -20,7 +20,7 @@ use Rattle.mqtt_records.specs.declared.state.records.Records.{Records}
 use Rattle.mqtt_records.specs.lists.Order.{row_at, remove_row}
 use Rattle.mqtt_records.specs.state.Session.{birth_of}
 use Rattle.mqtt_records.specs.state.Records.{changed_all}
-use Rattle.mqtt_rules.specs.declared.step.Limits.{Limits}
+use Rattle.mqtt_rules.specs.declared.step.Capacity.{Capacity}
 use Rattle.mqtt_rules.specs.step.State.{MemberChoice, Line as BrokerLine, Broker, Env, session_at, session_named, line_of}
 use Rattle.mqtt_rules.specs.step.Deeds.{whose, Part, Resume, Close, SetExpiry, DropWill, Subscribe, Unsubscribe, Open, Release, Enter, Mark, Leave, Hear, Deed, At, Finish, On, Send, Gone, will_row, part_rows_of, closing, after, after_all, Act, always, only_if, with_session}
 use Rattle.mqtt_rules.specs.step.Closing.{will_deeds, publish_will, end_session}
@@ -288,7 +288,7 @@ connect_is o env l client s b e t k some none room =
 -- ---- the call
 
 -- a new session begins behind the end of the old one
-renews : (o : Option BrokerLine) (limits : Limits) (l : BrokerLine) (client : List ℕ) (s : Session) (b : Broker) → IsTaken o s.birth l.number → IsKept client s b → session_on l.number b.lines ≡ Some None
+renews : (o : Option BrokerLine) (limits : Capacity) (l : BrokerLine) (client : List ℕ) (s : Session) (b : Broker) → IsTaken o s.birth l.number → IsKept client s b → session_on l.number b.lines ≡ Some None
     → HasGivenBirths b.records → limits.sessions ≤ SESSION_LIMIT → count b ≤ limits.sessions
     → Renews client l.number (ended_by o s b.now ++ begin l (hello_by true client) false client (next_birth (ended_by o s b.now) b)) b (lines_left o)
 renews o limits l client s b t k on births within room =
@@ -317,7 +317,7 @@ renews o limits l client s b t k on births within room =
     }
 
 -- and so it does by the call
-pub call_renews : (limits : Limits) (choice : MemberChoice) (now : ℕ) (p : Publisher) (l : BrokerLine) (s : Session) (b : Broker) → IsAsking p l s b → MayBegin limits p.client b
+pub call_renews : (limits : Capacity) (choice : MemberChoice) (now : ℕ) (p : Publisher) (l : BrokerLine) (s : Session) (b : Broker) → IsAsking p l s b → MayBegin limits p.client b
     → Renews p.client l.number (deeds limits choice now (Input l.number (connect_packet true p)) b) (at_moment now b) (lines_left (line_of s.birth b))
 call_renews limits choice now p l s b a m =
     let n = l.number in
@@ -342,7 +342,7 @@ call_renews limits choice now p l s b a m =
 
 -- The broker reads CONNECT with Clean Start on the publisher's line while its session stands: the session ends, a new one
 -- begins there, and the line that the old one was connected on is closed. What the publisher sees is that event of its hop
-pub clean_is_hop : (limits : Limits) (choice : MemberChoice) (now : ℕ) (p : Publisher) (rest : List Sent) (l : BrokerLine) (s : Session) (b : Broker) (accepted : List ℕ)
+pub clean_is_hop : (limits : Capacity) (choice : MemberChoice) (now : ℕ) (p : Publisher) (rest : List Sent) (l : BrokerLine) (s : Session) (b : Broker) (accepted : List ℕ)
     → p.line.up ≡ shake (CONNECT true) ∷ rest → IsAsking p l s b → MayBegin limits p.client b
     → seen accepted (after_step limits choice now (Input l.number (connect_packet true p)) p b) (stepped limits choice now (Input l.number (connect_packet true p)) b)
     ≡ step (seen accepted p b) (to_broker takes)
@@ -355,7 +355,7 @@ clean_is_hop limits choice now p rest l s b accepted up a m =
     (ap (λ (t : Bool). hop_of accepted p true xs (filter_map heard_in p.line.down ++ CONNACK false ∷ []) old t []) (sym before.0))
 
 -- and the new session and the line are its own after it
-pub clean_owns : (limits : Limits) (choice : MemberChoice) (now : ℕ) (p : Publisher) (l : BrokerLine) (s : Session) (b : Broker) → IsAsking p l s b → MayBegin limits p.client b → l.keep_alive ≡ 0 → IsInOrder b
+pub clean_owns : (limits : Capacity) (choice : MemberChoice) (now : ℕ) (p : Publisher) (l : BrokerLine) (s : Session) (b : Broker) → IsAsking p l s b → MayBegin limits p.client b → l.keep_alive ≡ 0 → IsInOrder b
     → IsInOrder (stepped limits choice now (Input l.number (connect_packet true p)) b) → (birth : ℕ) × Own p.client birth l.number (stepped limits choice now (Input l.number (connect_packet true p)) b)
 clean_owns limits choice now p l s b a m quiet order order_after =
     let g = call_renews limits choice now p l s b a m in

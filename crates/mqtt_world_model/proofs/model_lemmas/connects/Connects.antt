@@ -21,7 +21,7 @@ use Rattle.mqtt_records.specs.declared.state.records.Records.{Records}
 use Rattle.mqtt_records.specs.lists.Order.{row_at, change_row}
 use Rattle.mqtt_records.specs.state.Session.{birth_of, columns_of, with_columns, with_will, auto}
 use Rattle.mqtt_records.specs.state.Records.{changed_all}
-use Rattle.mqtt_rules.specs.declared.step.Limits.{Limits}
+use Rattle.mqtt_rules.specs.declared.step.Capacity.{Capacity}
 use Rattle.mqtt_rules.specs.step.Packets.{connack}
 use Rattle.mqtt_records.specs.messages.PassedOn.{property}
 use Rattle.mqtt_rules.specs.step.State.{MemberChoice, Line as BrokerLine, Broker, Env, session_at, session_named, line_of, is_of, queue_on}
@@ -319,7 +319,7 @@ pub heard_on_line : (m now : ℕ) (ls : List BrokerLine) (x : Option ℕ) → se
 heard_on_line m now ls x h = line_on now m m Hear ls (inr tt) ∙ h
 
 -- what the call leaves of the session and the line
-pub call_leaves : (limits : Limits) (choice : MemberChoice) (now : ℕ) (p : Publisher) (l : BrokerLine) (s : Session) (b : Broker) → IsAsking p l s b
+pub call_leaves : (limits : Capacity) (choice : MemberChoice) (now : ℕ) (p : Publisher) (l : BrokerLine) (s : Session) (b : Broker) → IsAsking p l s b
     → (f : Face) × Leaves s.birth l.number (deeds limits choice now (Input l.number (Connect (hello p.client))) b) (at_moment now b) f (Some (Some s.birth)) (CONNACK true ∷ []) (lines_left (line_of s.birth b)) × (f.client ≡ p.client) × (f.inbound ≡ s.inbound) × (f.will ≡ None) × (f.expiry ≡ never)
 call_leaves limits choice now p l s b a =
     let n = l.number in
@@ -353,7 +353,7 @@ not_left (Some l) k n t = rw (t.another l refl) refl
 
 -- The broker reads CONNECT without Clean Start on the publisher's line while its session stands: the session is resumed
 -- there, and the line that it was connected on is closed. What the publisher sees is that event of its hop
-pub connect_is_hop : (limits : Limits) (choice : MemberChoice) (now : ℕ) (p : Publisher) (rest : List Sent) (l : BrokerLine) (s : Session) (b : Broker) (accepted : List ℕ)
+pub connect_is_hop : (limits : Capacity) (choice : MemberChoice) (now : ℕ) (p : Publisher) (rest : List Sent) (l : BrokerLine) (s : Session) (b : Broker) (accepted : List ℕ)
     → p.line.up ≡ shake (CONNECT false) ∷ rest → IsAsking p l s b
     → seen accepted (after_step limits choice now (Input l.number (hello_packet p)) p b) (stepped limits choice now (Input l.number (hello_packet p)) b)
     ≡ step (seen accepted p b) (to_broker takes)
@@ -376,7 +376,7 @@ connect_is_hop limits choice now p rest l s b accepted up a =
     }) refl
 
 -- and the session and the line are its own after it
-pub connect_owns : (limits : Limits) (choice : MemberChoice) (now : ℕ) (p : Publisher) (l : BrokerLine) (s : Session) (b : Broker) → IsAsking p l s b → l.keep_alive ≡ 0 → IsInOrder b
+pub connect_owns : (limits : Capacity) (choice : MemberChoice) (now : ℕ) (p : Publisher) (l : BrokerLine) (s : Session) (b : Broker) → IsAsking p l s b → l.keep_alive ≡ 0 → IsInOrder b
     → IsInOrder (stepped limits choice now (Input l.number (hello_packet p)) b) → Own p.client s.birth l.number (stepped limits choice now (Input l.number (hello_packet p)) b)
 connect_owns limits choice now p l s b a quiet order order_after =
     let n = l.number in

@@ -9,7 +9,7 @@ use Rattle.mqtt_flow.specs.inbound.InboundWorld.{restart, step}
 use Rattle.mqtt_records.specs.messages.Queue.{CopyRow}
 use Rattle.mqtt_records.specs.declared.messages.message.Will.{Will}
 use Rattle.mqtt_records.specs.declared.state.session.Session.{Session}
-use Rattle.mqtt_rules.specs.declared.step.Limits.{Limits}
+use Rattle.mqtt_rules.specs.declared.step.Capacity.{Capacity}
 use Rattle.mqtt_rules.specs.step.State.{Broker, Env, MemberChoice, session_at, session_named}
 use Rattle.mqtt_rules.specs.step.Deeds.{Whose, whose, FromWill, DropWill, Leave, Deed, Accept, Begin, Name, Count, At, Finish, Keep, Forget, RefuseWill, Link, On, Send, Gone, rows_of_all, after_all, Act, always, only_if, with_session, of_session}
 use Rattle.mqtt_rules.specs.step.Routing.{CopyTo, accepted_copies}
@@ -120,7 +120,7 @@ none_of client (x ∷ xs) p q = elim (cases_Bool (bytes_eq x.client client)) [
 ]
 
 -- and so is one while it has none
-pub empty_restart_is_hop : (limits : Limits) (choice : MemberChoice) (now : ℕ) (p : Publisher) (b : Broker) (accepted : List ℕ) → session_named p.client b.records ≡ None
+pub empty_restart_is_hop : (limits : Capacity) (choice : MemberChoice) (now : ℕ) (p : Publisher) (b : Broker) (accepted : List ℕ) → session_named p.client b.records ≡ None
     → seen accepted (publisher_restarted p) (opened limits choice now b.records) ≡ step (seen accepted p b) restart
 empty_restart_is_hop limits choice now p b accepted none =
     let start = unopened now b.records in

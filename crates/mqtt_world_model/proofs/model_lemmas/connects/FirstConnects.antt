@@ -20,7 +20,7 @@ use Rattle.mqtt_records.specs.lists.Order.{row_at, has_row, put_row, change_row}
 use Rattle.mqtt_records.proofs.lists_lemmas.LookUps.{row_at-put_row}
 use Rattle.mqtt_records.specs.state.Session.{birth_of, fresh, with_columns, auto}
 use Rattle.mqtt_records.specs.state.Records.{put_session}
-use Rattle.mqtt_rules.specs.declared.step.Limits.{Limits}
+use Rattle.mqtt_rules.specs.declared.step.Capacity.{Capacity}
 use Rattle.mqtt_rules.specs.step.State.{MemberChoice, Line as BrokerLine, Broker, Env, session_named, line_at}
 use Rattle.mqtt_rules.specs.step.Deeds.{Hear, Deed, On, closing, after_all, rows_of_all, Act, only_if, with_session}
 use Rattle.mqtt_rules.specs.step.Closing.{never, settle}
@@ -83,7 +83,7 @@ connect_is env l clean client b none short plain some =
     ∙ joined_by_room (nat_lt (length b.records.sessions) env.limits.sessions) (is_empty client) l c b.records some))
 
 -- the deeds of the call: the line is heard of, and a session begins or is refused
-pub call_is : (limits : Limits) (choice : MemberChoice) (now : ℕ) (clean : Bool) (p : Publisher) (l : BrokerLine) (b : Broker) → IsFirst limits p l b
+pub call_is : (limits : Capacity) (choice : MemberChoice) (now : ℕ) (clean : Bool) (p : Publisher) (l : BrokerLine) (b : Broker) → IsFirst limits p l b
     → deeds limits choice now (Input l.number (Connect (hello_by clean p.client))) b
     ≡ On l.number Hear ∷ joins_by (nat_lt (length b.records.sessions) limits.sessions) l (hello_by clean p.client) b.records
 call_is limits choice now clean p l b a =
@@ -184,7 +184,7 @@ heard_first client n now ds b closings g = record {
 }
 
 -- the call, if the table has a place
-pub call_begins : (limits : Limits) (choice : MemberChoice) (now : ℕ) (clean : Bool) (p : Publisher) (l : BrokerLine) (b : Broker) → IsFirst limits p l b → nat_lt (length b.records.sessions) limits.sessions ≡ true
+pub call_begins : (limits : Capacity) (choice : MemberChoice) (now : ℕ) (clean : Bool) (p : Publisher) (l : BrokerLine) (b : Broker) → IsFirst limits p l b → nat_lt (length b.records.sessions) limits.sessions ≡ true
     → Renews p.client l.number (deeds limits choice now (Input l.number (connect_packet clean p)) b) (at_moment now b) []
 call_begins limits choice now clean p l b a room =
     let n = l.number in
@@ -198,7 +198,7 @@ call_begins limits choice now clean p l b a room =
 -- ---- what the publisher sees
 
 -- of a session that begins, as the hop has it
-pub renews_seen : (limits : Limits) (choice : MemberChoice) (now : ℕ) (clean : Bool) (p : Publisher) (rest : List Sent) (l : BrokerLine) (b : Broker) (accepted : List ℕ) (stood : Bool) (closings : List ℕ)
+pub renews_seen : (limits : Capacity) (choice : MemberChoice) (now : ℕ) (clean : Bool) (p : Publisher) (rest : List Sent) (l : BrokerLine) (b : Broker) (accepted : List ℕ) (stood : Bool) (closings : List ℕ)
     → p.line.up ≡ shake (CONNECT clean) ∷ rest → p.line.number ≡ Some l.number → is_some (session_named p.client b.records) ≡ stood
     → Renews p.client l.number (deeds limits choice now (Input l.number (connect_packet clean p)) b) (at_moment now b) closings
     → is_one_of (Some l.number) closings ≡ false → filter_map shaken (unless_closed (is_one_of p.line.old_number closings) p.line.old) ≡ spared (filter_map shaken p.line.old)
@@ -218,7 +218,7 @@ renews_seen limits choice now clean p rest l b accepted stood closings up number
     }) same
 
 -- and the session and the line are its own
-pub renews_owns : (limits : Limits) (choice : MemberChoice) (now : ℕ) (clean : Bool) (p : Publisher) (l : BrokerLine) (b : Broker) (closings : List ℕ)
+pub renews_owns : (limits : Capacity) (choice : MemberChoice) (now : ℕ) (clean : Bool) (p : Publisher) (l : BrokerLine) (b : Broker) (closings : List ℕ)
     (g : Renews p.client l.number (deeds limits choice now (Input l.number (connect_packet clean p)) b) (at_moment now b) closings) → line_at l.number b ≡ Some l
     → l.keep_alive ≡ 0 → IsInOrder b → IsInOrder (stepped limits choice now (Input l.number (connect_packet clean p)) b)
     → Own p.client g.birth l.number (stepped limits choice now (Input l.number (connect_packet clean p)) b)
@@ -234,14 +234,14 @@ none_closed None = refl
 none_closed (Some m) = refl
 
 -- a new session begins
-pub begins_seen : (limits : Limits) (choice : MemberChoice) (now : ℕ) (clean : Bool) (p : Publisher) (l : BrokerLine) (b : Broker) (accepted : List ℕ)
+pub begins_seen : (limits : Capacity) (choice : MemberChoice) (now : ℕ) (clean : Bool) (p : Publisher) (l : BrokerLine) (b : Broker) (accepted : List ℕ)
     → p.line.up ≡ shake (CONNECT clean) ∷ [] → IsFirst limits p l b → nat_lt (length b.records.sessions) limits.sessions ≡ true → Sees limits choice now clean p l b accepted (to_broker takes)
 begins_seen limits choice now clean p l b accepted up a room =
     renews_seen limits choice now clean p [] l b accepted false [] up a.number (ap is_some a.none) (call_begins limits choice now clean p l b a room) refl
     (ap (λ (t : Bool). filter_map shaken (unless_closed t p.line.old)) (none_closed p.line.old_number) ∙ a.old) refl
 
 -- or the table is full, and the line is closed
-pub refused_seen : (limits : Limits) (choice : MemberChoice) (now : ℕ) (clean : Bool) (p : Publisher) (l : BrokerLine) (b : Broker) (accepted : List ℕ)
+pub refused_seen : (limits : Capacity) (choice : MemberChoice) (now : ℕ) (clean : Bool) (p : Publisher) (l : BrokerLine) (b : Broker) (accepted : List ℕ)
     → p.line.up ≡ shake (CONNECT clean) ∷ [] → IsFirst limits p l b → nat_lt (length b.records.sessions) limits.sessions ≡ false → Sees limits choice now clean p l b accepted (to_broker refuses)
 refused_seen limits choice now clean p l b accepted up a full =
     let c = hello_by clean p.client in
@@ -269,7 +269,7 @@ refused_seen limits choice now clean p l b accepted up a full =
     nothing_up false = refl
 
 -- one of the two
-pub first_is_hop : (limits : Limits) (choice : MemberChoice) (now : ℕ) (clean : Bool) (p : Publisher) (l : BrokerLine) (b : Broker) (accepted : List ℕ)
+pub first_is_hop : (limits : Capacity) (choice : MemberChoice) (now : ℕ) (clean : Bool) (p : Publisher) (l : BrokerLine) (b : Broker) (accepted : List ℕ)
     → p.line.up ≡ shake (CONNECT clean) ∷ [] → IsFirst limits p l b
     → (e : HopEvent) × Sees limits choice now clean p l b accepted e
 first_is_hop limits choice now clean p l b accepted up a = elim (cases_Bool (nat_lt (length b.records.sessions) limits.sessions)) [
@@ -278,7 +278,7 @@ first_is_hop limits choice now clean p l b accepted up a = elim (cases_Bool (nat
 ]
 
 -- if one begins, it and the line are the publisher's own
-pub first_owns : (limits : Limits) (choice : MemberChoice) (now : ℕ) (clean : Bool) (p : Publisher) (l : BrokerLine) (b : Broker) → IsFirst limits p l b → nat_lt (length b.records.sessions) limits.sessions ≡ true
+pub first_owns : (limits : Capacity) (choice : MemberChoice) (now : ℕ) (clean : Bool) (p : Publisher) (l : BrokerLine) (b : Broker) → IsFirst limits p l b → nat_lt (length b.records.sessions) limits.sessions ≡ true
     → l.keep_alive ≡ 0 → IsInOrder b → IsInOrder (stepped limits choice now (Input l.number (connect_packet clean p)) b)
     → Own p.client (suc b.records.births) l.number (stepped limits choice now (Input l.number (connect_packet clean p)) b)
 unfolding call_begins heard_first begins

@@ -9,7 +9,7 @@ use Rattle.mqtt_flow.specs.outbound.Outbound.{due_from}
 use Rattle.mqtt_flow.specs.inbound.Publisher.{FromPublisher, CONNECT, ToPublisher, DISCONNECT}
 use Rattle.mqtt_flow.specs.inbound.InboundWorld.{World as Hop, takes, old_to_broker, taken_over, step}
 use Rattle.mqtt_records.specs.declared.state.session.Session.{Session}
-use Rattle.mqtt_rules.specs.declared.step.Limits.{Limits}
+use Rattle.mqtt_rules.specs.declared.step.Capacity.{Capacity}
 use Rattle.mqtt_rules.specs.step.State.{MemberChoice, Line as BrokerLine, Broker, session_named, line_at, line_of, queue_on}
 use Rattle.mqtt_rules.specs.step.Deeds.{Hear, Deed, On, output, closing, after_all}
 use Rattle.mqtt_rules.specs.step.Connect.{resume}
@@ -65,7 +65,7 @@ resumed_far client m now l x beside =
     (inl (inl (further x.birth)), (inr (beside, further x.birth), (inl (inl beside), far_quiet client (suc x.birth) m _ (repeats_quiet (suc x.birth) m now l.number x dues (λ d. d.identifier)))))
 
 -- what the call does to another line than the one that it came on
-pub call_there : (limits : Limits) (choice : MemberChoice) (now : ℕ) (client : List ℕ) (l : BrokerLine) (s : Session) (m : ℕ) (b : Broker) → line_at l.number b ≡ Some l → l.session ≡ None → IsKept client s b
+pub call_there : (limits : Capacity) (choice : MemberChoice) (now : ℕ) (client : List ℕ) (l : BrokerLine) (s : Session) (m : ℕ) (b : Broker) → line_at l.number b ≡ Some l → l.session ≡ None → IsKept client s b
     → IsTaken (line_of s.birth b) s.birth l.number → nat_eq l.number m ≡ false
     → IsThere m (deeds limits choice now (Input l.number (Connect (hello client))) b) (at_moment now b) (is_one_of (Some m) (lines_left (line_of s.birth b)))
 call_there limits choice now client l s m b line waits k taken beside =
@@ -108,7 +108,7 @@ agrees false accepted p before old ids =
     ap (λ (down : List ToPublisher). hop_of accepted p false (filter_map shaken p.line.up) down old true ids) (append-nil (filter_map heard_in p.line.down))
 
 -- the late CONNECT is that event of the hop
-pub late_is_hop : (limits : Limits) (choice : MemberChoice) (now : ℕ) (p : Publisher) (rest : List Sent) (l : BrokerLine) (s : Session) (b : Broker) (accepted : List ℕ)
+pub late_is_hop : (limits : Capacity) (choice : MemberChoice) (now : ℕ) (p : Publisher) (rest : List Sent) (l : BrokerLine) (s : Session) (b : Broker) (accepted : List ℕ)
     → p.line.old ≡ shake (CONNECT false) ∷ rest → IsLate p l s b
     → seen accepted (after_old_step limits choice now (Input l.number (hello_packet p)) p b) (stepped limits choice now (Input l.number (hello_packet p)) b)
     ≡ step (seen accepted p b) (old_to_broker takes)

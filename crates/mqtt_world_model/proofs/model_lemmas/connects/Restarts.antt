@@ -7,7 +7,7 @@ use Rattle.mqtt_flow.specs.inbound.InboundWorld.{restart, step}
 use Rattle.mqtt_records.specs.declared.state.session.Session.{Session}
 use Rattle.mqtt_records.specs.state.Records.{changed_all}
 use Rattle.mqtt_records.specs.state.Session.{birth_of, with_columns, auto}
-use Rattle.mqtt_rules.specs.declared.step.Limits.{Limits}
+use Rattle.mqtt_rules.specs.declared.step.Capacity.{Capacity}
 use Rattle.mqtt_rules.specs.step.State.{Broker, Env, MemberChoice, session_at, session_named}
 use Rattle.mqtt_rules.specs.step.Deeds.{Close, Deed, part_rows_of, rows_of_all, after_all}
 use Rattle.mqtt_rules.specs.step.Closing.{never, settle}
@@ -126,7 +126,7 @@ module _ (env : Env) (client : List ℕ) (birth : ℕ) (ids : List ℕ) (plain :
       subst StaysHere (sym (after_append first (second ++ []) b ∙ after_append second [] c)) (all_settled ss c (all_shut ss b s))
 
 -- what the opening leaves of the session
-stays_opened : (limits : Limits) (choice : MemberChoice) (now : ℕ) (client : List ℕ) (s : Session) (b : Broker) → IsKept client s b
+stays_opened : (limits : Capacity) (choice : MemberChoice) (now : ℕ) (client : List ℕ) (s : Session) (b : Broker) → IsKept client s b
     → AllByRecursion (IsOurs client s.birth) b.records.sessions → s.birth ≤ b.records.births
     → Stays client s.birth s.inbound (after_all (opening (env_of limits choice (unopened now b.records)) (unopened now b.records)) (unopened now b.records))
 stays_opened limits choice now client s b k ours births =
@@ -142,7 +142,7 @@ stays_opened limits choice now client s b k ours births =
     })
 
 -- and it stays the publisher's own, on no line
-pub restart_owns : (limits : Limits) (choice : MemberChoice) (now : ℕ) (client : List ℕ) (s : Session) (b : Broker) → IsKept client s b
+pub restart_owns : (limits : Capacity) (choice : MemberChoice) (now : ℕ) (client : List ℕ) (s : Session) (b : Broker) → IsKept client s b
     → AllByRecursion (IsOurs client s.birth) b.records.sessions → s.birth ≤ b.records.births → Own client s.birth 0 (opened limits choice now b.records)
 restart_owns limits choice now client s b k ours births =
     let start = unopened now b.records in
@@ -150,7 +150,7 @@ restart_owns limits choice now client s b k ours births =
     own_done client s.birth 0 (rows_of_all ds start.records) (after_all ds start) (stays_opened limits choice now client s b k ours births).own
 
 -- a restart while its session stands is that event of the hop
-pub restart_is_hop : (limits : Limits) (choice : MemberChoice) (now : ℕ) (p : Publisher) (s : Session) (b : Broker) (accepted : List ℕ)
+pub restart_is_hop : (limits : Capacity) (choice : MemberChoice) (now : ℕ) (p : Publisher) (s : Session) (b : Broker) (accepted : List ℕ)
     → IsKept p.client s b → AllByRecursion (IsOurs p.client s.birth) b.records.sessions → s.birth ≤ b.records.births
     → seen accepted (publisher_restarted p) (opened limits choice now b.records) ≡ step (seen accepted p b) restart
 restart_is_hop limits choice now p s b accepted k ours births =

@@ -21,7 +21,7 @@ use Rattle.mqtt_rules.specs.step.Deeds.{Message, FromClient, Deed, after_all}
 use Rattle.mqtt_rules.specs.step.Routing.{CopyTo, accepted_copies, publish, is_wanted}
 use Rattle.mqtt_rules.specs.step.Closing.{never, drop_line}
 use Rattle.mqtt_rules.specs.step.Step.{Input, next_packet, env_of, deeds}
-use Rattle.mqtt_rules.specs.declared.step.Limits.{Limits}
+use Rattle.mqtt_rules.specs.declared.step.Capacity.{Capacity}
 use Rattle.mqtt_rules.specs.step.Inbound.{Meaning, Means, Wrong, meaning, sets_alias, standing, answer, opens, code_again, code_accepted, publish_new, publish_by, message_of, publish_meant, release_by}
 use Rattle.mqtt_world_model.proofs.model_lemmas.others.Quiet.{copies_of, quiet_copies}
 use Rattle.mqtt_world_model.proofs.model_lemmas.others.Far.{AreFar}
@@ -105,7 +105,7 @@ module _ (client : List ℕ) (birth n : ℕ) (l : Line) (s : Session) (another :
   far_next env packet b q at on w e = absurd q
 
   -- a session's own PUBLISH and PUBREL are far from every other session and line
-  pub far_elsewhere : (limits : Limits) (choice : MemberChoice) (now : ℕ) (packet : Packet) (b : Broker) → IsOwnPacket packet
+  pub far_elsewhere : (limits : Capacity) (choice : MemberChoice) (now : ℕ) (packet : Packet) (b : Broker) → IsOwnPacket packet
       → line_at l.number b ≡ Some l → l.session ≡ Some s.birth → session_at s.birth b.records ≡ Some s → s.will ≡ None → s.expiry ≡ never
       → Far (deeds limits choice now (Input l.number packet) b)
   far_elsewhere limits choice now packet b q line on at w e =

@@ -11,7 +11,7 @@ use Rattle.mqtt_records.specs.declared.state.session.Session.{Session}
 use Rattle.mqtt_records.specs.declared.state.change.Change.{Change}
 use Rattle.mqtt_records.specs.lists.Order.{row_at}
 use Rattle.mqtt_records.specs.state.Session.{birth_of, auto}
-use Rattle.mqtt_rules.specs.declared.step.Limits.{Limits}
+use Rattle.mqtt_rules.specs.declared.step.Capacity.{Capacity}
 use Rattle.mqtt_rules.specs.step.State.{MemberChoice, Line as BrokerLine, Broker, session_at, session_named}
 use Rattle.mqtt_rules.specs.step.Deeds.{output, closing, after_all, rows_of_all}
 use Rattle.mqtt_rules.specs.step.Step.{Call, with_moment, at_moment, env_of, deeds, stepped, told}
@@ -40,7 +40,7 @@ old_closed true old w e = refl
 old_closed false old w e = λ i. record w { old = sym e i }
 
 -- a step of others is unseen, but that the line given up may be closed
-pub frame : (limits : Limits) (choice : MemberChoice) (now : ℕ) (call : Call) (p : Publisher) (l : BrokerLine) (s : Session) (b : Broker) (accepted : List ℕ)
+pub frame : (limits : Capacity) (choice : MemberChoice) (now : ℕ) (call : Call) (p : Publisher) (l : BrokerLine) (s : Session) (b : Broker) (accepted : List ℕ)
     → IsConnected p l s b → Own p.client s.birth l.number b → starts_with nat_eq p.client auto ≡ false → IsFarCall p.client l.number call
     → (es : List HopEvent) × (seen accepted (publisher_told (stepped limits choice now call b) (told limits choice now call b) p) (stepped limits choice now call b) ≡ run es (seen accepted p b))
 frame limits choice now call p l s b accepted c own plain far =
@@ -101,7 +101,7 @@ own_done client birth n rows b o = record {
 }
 
 -- a call of another's leaves what is the publisher's
-pub own_stays : (limits : Limits) (choice : MemberChoice) (now : ℕ) (call : Call) (client : List ℕ) (birth n : ℕ) (b : Broker)
+pub own_stays : (limits : Capacity) (choice : MemberChoice) (now : ℕ) (call : Call) (client : List ℕ) (birth n : ℕ) (b : Broker)
     → Own client birth n b → starts_with nat_eq client auto ≡ false → IsFarCall client n call → Own client birth n (stepped limits choice now call b)
 own_stays limits choice now call client birth n b own plain far =
     let start = at_moment now b in
@@ -120,7 +120,7 @@ own_stays limits choice now call client birth n b own plain far =
 -- ---- while the publisher has no line
 
 -- it sees what becomes of its session, and of the line that it gave up
-away_seen : (limits : Limits) (choice : MemberChoice) (now : ℕ) (call : Call) (p : Publisher) (b : Broker) (accepted : List ℕ) → p.line.number ≡ None
+away_seen : (limits : Capacity) (choice : MemberChoice) (now : ℕ) (call : Call) (p : Publisher) (b : Broker) (accepted : List ℕ) → p.line.number ≡ None
     → is_some (session_named p.client (stepped limits choice now call b).records) ≡ is_some (session_named p.client b.records)
     → open_in (session_named p.client (stepped limits choice now call b).records) ≡ open_in (session_named p.client b.records)
     → (es : List HopEvent) × (seen accepted (publisher_told (stepped limits choice now call b) (told limits choice now call b) p) (stepped limits choice now call b) ≡ run es (seen accepted p b))
@@ -140,7 +140,7 @@ away_seen limits choice now call p b accepted none stands ids =
     (old_events t, same ∙ old_closed t p.line.old (seen accepted p b) refl)
 
 -- its session stands, connected on the line that it gave up or nowhere
-pub away_frame : (limits : Limits) (choice : MemberChoice) (now : ℕ) (call : Call) (p : Publisher) (n : ℕ) (s : Session) (b : Broker) (accepted : List ℕ)
+pub away_frame : (limits : Capacity) (choice : MemberChoice) (now : ℕ) (call : Call) (p : Publisher) (n : ℕ) (s : Session) (b : Broker) (accepted : List ℕ)
     → p.line.number ≡ None → IsKept p.client s b → Own p.client s.birth n b → IsFarCall p.client n call
     → (es : List HopEvent) × (seen accepted (publisher_told (stepped limits choice now call b) (told limits choice now call b) p) (stepped limits choice now call b) ≡ run es (seen accepted p b))
 away_frame limits choice now call p n s b accepted none k own far =
@@ -172,7 +172,7 @@ none_named client birth (x ∷ xs) h none = elim (cases_Bool (nat_eq x.birth bir
 ]
 
 -- it has none
-pub nobody_frame : (limits : Limits) (choice : MemberChoice) (now : ℕ) (call : Call) (p : Publisher) (birth n : ℕ) (b : Broker) (accepted : List ℕ)
+pub nobody_frame : (limits : Capacity) (choice : MemberChoice) (now : ℕ) (call : Call) (p : Publisher) (birth n : ℕ) (b : Broker) (accepted : List ℕ)
     → p.line.number ≡ None → session_at birth b.records ≡ None → Own p.client birth n b → starts_with nat_eq p.client auto ≡ false → IsFarCall p.client n call
     → (session_at birth (stepped limits choice now call b).records ≡ None)
     × ((es : List HopEvent) × (seen accepted (publisher_told (stepped limits choice now call b) (told limits choice now call b) p) (stepped limits choice now call b) ≡ run es (seen accepted p b)))

@@ -7,7 +7,7 @@ use Rattle.mqtt_flow.specs.inbound.Publisher.{FromPublisher, CONNECT, PUBLISH_1,
 use Rattle.mqtt_flow.specs.inbound.InboundWorld.{World as Hop, break, restart, step, Heard}
 use Rattle.mqtt_flow.proofs.inbound_lemmas.inbound.Heard.{heard_run}
 use Rattle.mqtt_records.specs.declared.state.session.Session.{Session}
-use Rattle.mqtt_rules.specs.declared.step.Limits.{Limits}
+use Rattle.mqtt_rules.specs.declared.step.Capacity.{Capacity}
 use Rattle.mqtt_rules.specs.step.State.{MemberChoice, Line as BrokerLine, Broker, session_named, line_at}
 use Rattle.mqtt_rules.specs.step.Deeds.{Deed, after_all, rows_of_all, with_line}
 use Rattle.mqtt_rules.specs.step.Closing.{close}
@@ -52,18 +52,18 @@ moved client None k now b h = h
 moved client (Some birth) k now b h = (record { sessions = h.0.sessions; lines = h.0.lines; births = h.0.births; given = h.0.given }, h.1)
 
 -- a call of another's does what others do
-pub others_of : (limits : Limits) (choice : MemberChoice) (now : ℕ) (call : Call) (client : List ℕ) (o : Option ℕ) (k : ℕ) (b : Broker) → IsHis client o k b → starts_with nat_eq client auto ≡ false → IsFarCall client k call
+pub others_of : (limits : Capacity) (choice : MemberChoice) (now : ℕ) (call : Call) (client : List ℕ) (o : Option ℕ) (k : ℕ) (b : Broker) → IsHis client o k b → starts_with nat_eq client auto ≡ false → IsFarCall client k call
     → AreOthers client o k (deeds limits choice now call b)
 others_of limits choice now call client None k b his proper far = strangers_call client (env_of limits choice b) call (at_moment now b) proper (of_others client k call far)
 others_of limits choice now call client (Some birth) k b his proper far = far_call client birth k (env_of limits choice b) call (at_moment now b) (moved client (Some birth) k now b his).0 proper far
 
 -- a call on another line stays off the publisher's
-pub off_line : (limits : Limits) (choice : MemberChoice) (now : ℕ) (call : Call) (x : Option ℕ) (b : Broker) → IsOff x call → AreElsewhere x (deeds limits choice now call b) (at_moment now b)
+pub off_line : (limits : Capacity) (choice : MemberChoice) (now : ℕ) (call : Call) (x : Option ℕ) (b : Broker) → IsOff x call → AreElsewhere x (deeds limits choice now call b) (at_moment now b)
 off_line limits choice now call None b q = tt
 off_line limits choice now call (Some n) b q = λ idle. elsewhere n (env_of limits choice b) call (at_moment now b) idle q
 
 -- a call of another's leaves the publisher seated
-pub others_come : (limits : Limits) (choice : MemberChoice) (now : ℕ) (call : Call) (o : Option ℕ) (k : ℕ) (p : Publisher) (b : Broker) (accepted : List ℕ)
+pub others_come : (limits : Capacity) (choice : MemberChoice) (now : ℕ) (call : Call) (o : Option ℕ) (k : ℕ) (p : Publisher) (b : Broker) (accepted : List ℕ)
     → Seat o k p b → IsNamed p.client → IsFarCall p.client k call → IsOff p.line.number call → IsOff p.line.old_number call
     → Comes k p (publisher_told (stepped limits choice now call b) (told limits choice now call b) p) b (stepped limits choice now call b) accepted accepted
 others_come limits choice now call o k p b accepted seat named far own old =
@@ -96,12 +96,12 @@ heads_same x y xs ys e = cc
 tails_none : (x y : Sent) (xs : List Sent) → x ∷ xs ≡ y ∷ [] → xs ≡ []
 tails_none x y xs e = cc
 
-abbrev pub Reads : Limits → MemberChoice → ℕ → ℕ → ℕ → Publisher → Sent → Broker → List ℕ → Type 0
+abbrev pub Reads : Capacity → MemberChoice → ℕ → ℕ → ℕ → Publisher → Sent → Broker → List ℕ → Type 0
 Reads limits choice now n k p packet b accepted =
     let call = Input n (wire p.client p.contents packet) in
     Comes k p (after_step limits choice now call p b) b (stepped limits choice now call b) accepted (accepted ++ each_of (message_in packet) (deeds limits choice now call b))
 
-connects : (limits : Limits) (choice : MemberChoice) (now : ℕ) (n : ℕ) (o : Option ℕ) (k : ℕ) (clean : Bool) (p : Publisher) (b : Broker) (accepted : List ℕ)
+connects : (limits : Capacity) (choice : MemberChoice) (now : ℕ) (n : ℕ) (o : Option ℕ) (k : ℕ) (clean : Bool) (p : Publisher) (b : Broker) (accepted : List ℕ)
     → IsNamed p.client → IsSound limits p.client b → IsInOrder (stepped limits choice now (Input n (connect_packet clean p)) b) → IsApart p.line.number p.line.old_number
     → IsHis p.client o k b → Former o k p.line b → p.line.number ≡ Some n → p.line.up ≡ shake (CONNECT clean) ∷ [] → IsIdle n b → glance_at n b.lines ≡ waits_there
     → Comes k p (after_step limits choice now (Input n (connect_packet clean p)) p b) b (stepped limits choice now (Input n (connect_packet clean p)) b) accepted accepted
@@ -120,7 +120,7 @@ connects limits choice now n o k clean p b accepted named sound order apart his 
         (subst (λ (z : ℕ). IsHis p.client (Some z) k b) (sym s.1) h) (subst (λ (z : ℕ). Former (Some z) k p.line b) (sym s.1) f)
 
 -- a call on the publisher's line is steps of the hop
-pub reads_own : (limits : Limits) (choice : MemberChoice) (now : ℕ) (n : ℕ) (o : Option ℕ) (k : ℕ) (packet : Sent) (rest : List Sent) (p : Publisher) (b : Broker) (accepted : List ℕ)
+pub reads_own : (limits : Capacity) (choice : MemberChoice) (now : ℕ) (n : ℕ) (o : Option ℕ) (k : ℕ) (packet : Sent) (rest : List Sent) (p : Publisher) (b : Broker) (accepted : List ℕ)
     → Seat o k p b → IsNamed p.client → IsSound limits p.client b → IsInOrder (stepped limits choice now (Input n (wire p.client p.contents packet)) b) → IsApart p.line.number p.line.old_number → IsRun accepted p b
     → p.line.number ≡ Some n → p.line.up ≡ packet ∷ rest → Reads limits choice now n k p packet b accepted
 reads_own limits choice now n o k packet rest p b accepted seat named sound order apart r is up = by seat.present
@@ -152,12 +152,12 @@ reads_own limits choice now n o k packet rest p b accepted seat named sound orde
 
 -- ---- a packet of the line that it gave up
 
-abbrev pub ReadsOld : Limits → MemberChoice → ℕ → ℕ → ℕ → Publisher → Sent → Broker → List ℕ → Type 0
+abbrev pub ReadsOld : Capacity → MemberChoice → ℕ → ℕ → ℕ → Publisher → Sent → Broker → List ℕ → Type 0
 ReadsOld limits choice now n k p packet b accepted =
     let call = Input n (wire p.client p.contents packet) in
     Comes k p (after_old_step limits choice now call p b) b (stepped limits choice now call b) accepted (accepted ++ each_of (message_in packet) (deeds limits choice now call b))
 
-late_connects : (limits : Limits) (choice : MemberChoice) (now : ℕ) (n : ℕ) (o : Option ℕ) (k : ℕ) (p : Publisher) (b : Broker) (accepted : List ℕ)
+late_connects : (limits : Capacity) (choice : MemberChoice) (now : ℕ) (n : ℕ) (o : Option ℕ) (k : ℕ) (p : Publisher) (b : Broker) (accepted : List ℕ)
     → IsNamed p.client → IsSound limits p.client b → IsInOrder (stepped limits choice now (Input n (connect_packet false p)) b) → IsApart p.line.number p.line.old_number
     → IsHis p.client o k b → Present o k p.line b → p.line.old_number ≡ Some n → p.line.old ≡ shake (CONNECT false) ∷ [] → IsIdle n b → glance_at n b.lines ≡ waits_there
     → Comes k p (after_old_step limits choice now (Input n (connect_packet false p)) p b) b (stepped limits choice now (Input n (connect_packet false p)) b) accepted accepted
@@ -176,7 +176,7 @@ late_connects limits choice now n o k p b accepted named sound order apart his p
         (subst (λ (z : ℕ). IsHis p.client (Some z) k b) (sym s.1) h) (subst (λ (z : ℕ). Present (Some z) k p.line b) (sym s.1) f)
 
 -- so is a call on its old line
-pub reads_old : (limits : Limits) (choice : MemberChoice) (now : ℕ) (n : ℕ) (o : Option ℕ) (k : ℕ) (packet : Sent) (rest : List Sent) (p : Publisher) (b : Broker) (accepted : List ℕ)
+pub reads_old : (limits : Capacity) (choice : MemberChoice) (now : ℕ) (n : ℕ) (o : Option ℕ) (k : ℕ) (packet : Sent) (rest : List Sent) (p : Publisher) (b : Broker) (accepted : List ℕ)
     → Seat o k p b → IsNamed p.client → IsSound limits p.client b → IsInOrder (stepped limits choice now (Input n (wire p.client p.contents packet)) b) → IsApart p.line.number p.line.old_number
     → p.line.old_number ≡ Some n → p.line.old ≡ packet ∷ rest → ReadsOld limits choice now n k p packet b accepted
 reads_old limits choice now n o k packet rest p b accepted seat named sound order apart is up = by seat.former
@@ -209,7 +209,7 @@ reads_old limits choice now n o k packet rest p b accepted seat named sound orde
 -- ---- its line is lost
 
 -- it leaves a line on which its session is not connected
-leaves : (limits : Limits) (choice : MemberChoice) (now : ℕ) (call : Call) (o : Option ℕ) (k : ℕ) (p : Publisher) (b : Broker) (accepted : List ℕ)
+leaves : (limits : Capacity) (choice : MemberChoice) (now : ℕ) (call : Call) (o : Option ℕ) (k : ℕ) (p : Publisher) (b : Broker) (accepted : List ℕ)
     → Seat o k p b → AreOthers p.client o k (deeds limits choice now call b) → AreElsewhere p.line.old_number (deeds limits choice now call b) (at_moment now b)
     → let q = publisher_told (stepped limits choice now call b) (told limits choice now call b) p in
     Comes k p (record q { line = left q.line }) b (stepped limits choice now call b) accepted accepted
@@ -242,10 +242,10 @@ leaves limits choice now call o k p b accepted seat its old =
     gone (late m is x idle there) = late m is x idle there
     gone (lingers birth own is calm there) = lingers birth own is calm there
 
-abbrev pub Loses : Limits → MemberChoice → ℕ → ℕ → ℕ → Publisher → Broker → List ℕ → Type 0
+abbrev pub Loses : Capacity → MemberChoice → ℕ → ℕ → ℕ → Publisher → Broker → List ℕ → Type 0
 Loses limits choice now n k p b accepted = Comes k p (lost_by limits choice now n p b) b (stepped limits choice now (Lost n) b) accepted accepted
 
-lost_none : (limits : Limits) (choice : MemberChoice) (now n : ℕ) (b : Broker) → glance_at n b.lines ≡ None → deeds limits choice now (Lost n) b ≡ []
+lost_none : (limits : Capacity) (choice : MemberChoice) (now n : ℕ) (b : Broker) → glance_at n b.lines ≡ None → deeds limits choice now (Lost n) b ≡ []
 lost_none limits choice now n b none = by (line_at n b) refl none
   where
     by : (x : Option BrokerLine) → line_at n b ≡ x → option_map (λ (l : BrokerLine). glance l) x ≡ None → deeds limits choice now (Lost n) b ≡ []
@@ -271,17 +271,17 @@ waits_apart client o k n b his there birth is =
           | inr some ↦ let no : Some (Some z) ≡ Some None = sym some ∙ there_is in absurd cc
         ]
 
-lost_others : (limits : Limits) (choice : MemberChoice) (now n : ℕ) (client : List ℕ) (o : Option ℕ) (k : ℕ) (b : Broker) → IsHis client o k b → starts_with nat_eq client auto ≡ false
+lost_others : (limits : Capacity) (choice : MemberChoice) (now n : ℕ) (client : List ℕ) (o : Option ℕ) (k : ℕ) (b : Broker) → IsHis client o k b → starts_with nat_eq client auto ≡ false
     → ((birth : ℕ) → o ≡ Some birth → nat_eq n k ≡ false) → AreOthers client o k (deeds limits choice now (Lost n) b)
 lost_others limits choice now n client None k b his proper h = strangers_call client (env_of limits choice b) (Lost n) (at_moment now b) proper tt
 lost_others limits choice now n client (Some birth) k b his proper h = far_call client birth k (env_of limits choice b) (Lost n) (at_moment now b) (moved client (Some birth) k now b his).0 proper (h birth refl)
 
-lost_off : (limits : Limits) (choice : MemberChoice) (now n : ℕ) (x : Option ℕ) (b : Broker) → ((m : ℕ) → x ≡ Some m → n ≡ m → ⊥) → AreElsewhere x (deeds limits choice now (Lost n) b) (at_moment now b)
+lost_off : (limits : Capacity) (choice : MemberChoice) (now n : ℕ) (x : Option ℕ) (b : Broker) → ((m : ℕ) → x ≡ Some m → n ≡ m → ⊥) → AreElsewhere x (deeds limits choice now (Lost n) b) (at_moment now b)
 lost_off limits choice now n None b h = tt
 lost_off limits choice now n (Some m) b h = off_line limits choice now (Lost n) (Some m) b (differs n m (h m refl))
 
 -- so is the loss of its line
-pub loses : (limits : Limits) (choice : MemberChoice) (now : ℕ) (n : ℕ) (o : Option ℕ) (k : ℕ) (p : Publisher) (b : Broker) (accepted : List ℕ)
+pub loses : (limits : Capacity) (choice : MemberChoice) (now : ℕ) (n : ℕ) (o : Option ℕ) (k : ℕ) (p : Publisher) (b : Broker) (accepted : List ℕ)
     → Seat o k p b → IsNamed p.client → IsApart p.line.number p.line.old_number → p.line.number ≡ Some n → Loses limits choice now n k p b accepted
 loses limits choice now n o k p b accepted seat named apart is = by seat.present
   where
@@ -340,7 +340,7 @@ loses limits choice now n o k p b accepted seat named apart is = by seat.present
 -- ---- the broker restarts
 
 -- so is a restart
-pub restarts_come : (limits : Limits) (choice : MemberChoice) (now : ℕ) (o : Option ℕ) (k : ℕ) (p : Publisher) (b : Broker) (accepted : List ℕ) → IsHis p.client o k b → IsNamed p.client
+pub restarts_come : (limits : Capacity) (choice : MemberChoice) (now : ℕ) (o : Option ℕ) (k : ℕ) (p : Publisher) (b : Broker) (accepted : List ℕ) → IsHis p.client o k b → IsNamed p.client
     → Comes 0 p (publisher_restarted p) b (opened limits choice now b.records) accepted accepted
 restarts_come limits choice now None k p b accepted his named =
     let e = empty_restart_is_hop limits choice now p b accepted his in

@@ -10,7 +10,7 @@ use Rattle.mqtt_flow.specs.inbound.Inbound.{answer_to, answer_to_release}
 use Rattle.mqtt_flow.specs.inbound.Publisher.{FromPublisher, CONNECT, PUBLISH_1, PUBLISH_2, PUBREL, ToPublisher, DISCONNECT}
 use Rattle.mqtt_flow.specs.inbound.InboundWorld.{World as Hop, Choice, Event as HopEvent, takes, takes_unheard, refuses, to_broker, old_to_broker, close, close_old, Verdict, accept, refuse, repeat, shut, verdict_on, left_by, linked_by, accepted_by, ids_by, answer_1, answer_2, answer_to_pubrel, broker_reads, broker_reads_old, step, run}
 use Rattle.mqtt_records.specs.declared.state.session.Session.{Session}
-use Rattle.mqtt_rules.specs.declared.step.Limits.{Limits}
+use Rattle.mqtt_rules.specs.declared.step.Capacity.{Capacity}
 use Rattle.mqtt_rules.specs.step.State.{MemberChoice, Line as BrokerLine, Broker}
 use Rattle.mqtt_rules.specs.step.Deeds.{Deed}
 use Rattle.mqtt_rules.specs.step.Routing.{next_publication}
@@ -49,7 +49,7 @@ up_on its_own p = p.line.up
 up_on given_up p = p.line.old
 
 -- after a step in which the first packet was read there
-abbrev pub after_on : Which → Limits → MemberChoice → ℕ → Call → Publisher → Broker → Publisher
+abbrev pub after_on : Which → Capacity → MemberChoice → ℕ → Call → Publisher → Broker → Publisher
 after_on its_own limits choice now call p b = after_step limits choice now call p b
 after_on given_up limits choice now call p b = after_old_step limits choice now call p b
 
@@ -79,7 +79,7 @@ seen_on its_own accepted p b rest ids on ps t =
 seen_on given_up accepted p b rest ids on ps t = old_with accepted p b (filter_map shaken (unless_closed t rest)) ids
 
 -- the step is this event of its hop, with the messages that it accepted from message k
-abbrev pub BecomesOn : Which → Limits → MemberChoice → ℕ → Call → ℕ → Publisher → Broker → List ℕ → HopEvent → Type 0
+abbrev pub BecomesOn : Which → Capacity → MemberChoice → ℕ → Call → ℕ → Publisher → Broker → List ℕ → HopEvent → Type 0
 BecomesOn w limits choice now call k p b accepted e =
     seen (accepted ++ counted k (numbers_of limits choice now call b)) (after_on w limits choice now call p b) (stepped limits choice now call b) ≡ step (seen accepted p b) e
 
@@ -92,7 +92,7 @@ stands_on its_own p rest packet l s b accepted up c = seen_before p rest packet 
 stands_on given_up p rest packet l s b accepted up c = old_before p (packet ∷ rest) l s b accepted up c
 
 -- after it
-sees_on : (w : Which) (limits : Limits) (choice : MemberChoice) (now : ℕ) (p : Publisher) (rest : List Sent) (sent : Sent) (packet : Packet) (l : BrokerLine) (s : Session) (b : Broker)
+sees_on : (w : Which) (limits : Capacity) (choice : MemberChoice) (now : ℕ) (p : Publisher) (rest : List Sent) (sent : Sent) (packet : Packet) (l : BrokerLine) (s : Session) (b : Broker)
     (accepted : List ℕ) (f : Face) (on : Option (Option ℕ)) (ps : List ToPublisher) (t : Bool) (count : List ℕ)
     → IsOwn packet → up_on w p ≡ sent ∷ rest → IsOn w p l s b → f.client ≡ s.client
     → Gives s.birth l.number (next_packet (env_of limits choice b) l packet s (heard_of now l.number b)) (heard_of now l.number b) f on ps t count
@@ -105,7 +105,7 @@ sees_on given_up limits choice now p rest sent packet l s b accepted f on ps t c
     (input_gives limits choice now packet l s b f on ps t count c.line c.connected c.session d) (elsewhere limits choice now p packet l s b q c)
 
 -- with the messages that the step accepted
-counts_on : (w : Which) (limits : Limits) (choice : MemberChoice) (now : ℕ) (p : Publisher) (rest : List Sent) (sent : Sent) (packet : Packet) (l : BrokerLine) (s : Session) (b : Broker)
+counts_on : (w : Which) (limits : Capacity) (choice : MemberChoice) (now : ℕ) (p : Publisher) (rest : List Sent) (sent : Sent) (packet : Packet) (l : BrokerLine) (s : Session) (b : Broker)
     (accepted : List ℕ) (k : ℕ) (f : Face) (on : Option (Option ℕ)) (ps : List ToPublisher) (t : Bool) (count : List ℕ)
     → IsOwn packet → up_on w p ≡ sent ∷ rest → IsOn w p l s b → f.client ≡ s.client
     → Gives s.birth l.number (next_packet (env_of limits choice b) l packet s (heard_of now l.number b)) (heard_of now l.number b) f on ps t count
@@ -186,7 +186,7 @@ accepts_none given_up accepted p b rest id up = ap (λ (xs : List Sent). (broker
 
 -- ---- each packet of the session
 
-module _ (w : Which) (limits : Limits) (choice : MemberChoice) (now : ℕ) (p : Publisher) (rest : List Sent) where
+module _ (w : Which) (limits : Capacity) (choice : MemberChoice) (now : ℕ) (p : Publisher) (rest : List Sent) where
   -- the call, by the packet
   abbrev call_by : BrokerLine → Sent → Call
   call_by l packet = Input l.number (wire p.client p.contents packet)

@@ -6,7 +6,7 @@ use Rattle.std.proofs.lemmas.Bool.{cases_Bool}
 use Rattle.mqtt_flow.specs.inbound.Publisher.{FromPublisher, CONNECT}
 use Rattle.mqtt_flow.specs.inbound.InboundWorld.{World as Hop, takes, refuses, old_to_broker, broker_reads_old, on_connect, on_old_connect, step, run}
 use Rattle.mqtt_records.specs.declared.state.session.Session.{Session}
-use Rattle.mqtt_rules.specs.declared.step.Limits.{Limits}
+use Rattle.mqtt_rules.specs.declared.step.Capacity.{Capacity}
 use Rattle.mqtt_rules.specs.step.State.{MemberChoice, Line as BrokerLine, Broker, session_named, line_at, line_of}
 use Rattle.mqtt_rules.specs.step.Deeds.{Deed, Accept, Begin, Name, Count, At, Finish, Keep, Forget, RefuseWill, Link, On, Send, Gone, after, after_all, rows_of_all}
 use Rattle.mqtt_rules.specs.step.Step.{Input, at_moment, deeds, stepped, told}
@@ -44,7 +44,7 @@ all_drop (x ∷ xs) h = h.1
 -- ---- a packet of its session, which is connected there
 
 -- a packet on the old line is steps of the hop
-pub old_packet_comes : (limits : Limits) (choice : MemberChoice) (now : ℕ) (p : Publisher) (rest : List Sent) (packet : Sent) (l : BrokerLine) (s : Session) (b : Broker) (accepted : List ℕ)
+pub old_packet_comes : (limits : Capacity) (choice : MemberChoice) (now : ℕ) (p : Publisher) (rest : List Sent) (packet : Sent) (l : BrokerLine) (s : Session) (b : Broker) (accepted : List ℕ)
     → p.line.old ≡ packet ∷ rest → IsNoConnect packet → AllByRecursion IsNoConnect p.line.old → IsConnected (turned_back p) l s b → IsApart p.line.number p.line.old_number
     → IsHis p.client (Some s.birth) l.number b → Present (Some s.birth) l.number p.line b
     → Comes l.number p (after_old_step limits choice now (Input l.number (wire p.client p.contents packet)) p b) b (stepped limits choice now (Input l.number (wire p.client p.contents packet)) b)
@@ -100,12 +100,12 @@ late_linked client birth k l b own (joined it of is there) =
     let on = there ∙ ap (λ (n : ℕ). Some (Some n)) same in
     ap (λ (x : Option ℕ). is_linked x b) is ∙ (linked_is k b ∙ (ap linked_of on ∙ (sym (left_own client birth k b own on) ∙ sym (ap (λ (x : Option ℕ). is_one_of x (lines_left (line_of birth b))) is))))
 
-abbrev pub LateConnected : Limits → MemberChoice → ℕ → ℕ → Publisher → BrokerLine → Broker → List ℕ → Type 0
+abbrev pub LateConnected : Capacity → MemberChoice → ℕ → ℕ → Publisher → BrokerLine → Broker → List ℕ → Type 0
 LateConnected limits choice now k p l b accepted =
     Comes k p (after_old_step limits choice now (Input l.number (connect_packet false p)) p b) b (stepped limits choice now (Input l.number (connect_packet false p)) b) accepted accepted
 
 -- so is a CONNECT there
-pub late_comes : (limits : Limits) (choice : MemberChoice) (now : ℕ) (p : Publisher) (l : BrokerLine) (s : Session) (k : ℕ) (b : Broker) (accepted : List ℕ)
+pub late_comes : (limits : Capacity) (choice : MemberChoice) (now : ℕ) (p : Publisher) (l : BrokerLine) (s : Session) (k : ℕ) (b : Broker) (accepted : List ℕ)
     → IsInOrder b → IsInOrder (stepped limits choice now (Input l.number (connect_packet false p)) b)
     → p.line.old ≡ shake (CONNECT false) ∷ [] → p.line.old_number ≡ Some l.number → IsApart p.line.number p.line.old_number → line_at l.number b ≡ Some l → l.session ≡ None → l.keep_alive ≡ 0 → IsIdle l.number b
     → IsKept p.client s b → IsHis p.client (Some s.birth) k b → Present (Some s.birth) k p.line b
@@ -175,7 +175,7 @@ stands_kept true w = refl
 stands_kept false w = refl
 
 -- also if it is the first
-pub late_first : (limits : Limits) (choice : MemberChoice) (now : ℕ) (p : Publisher) (l : BrokerLine) (k : ℕ) (b : Broker) (accepted : List ℕ)
+pub late_first : (limits : Capacity) (choice : MemberChoice) (now : ℕ) (p : Publisher) (l : BrokerLine) (k : ℕ) (b : Broker) (accepted : List ℕ)
     → IsNamed p.client → IsSound limits p.client b → IsInOrder (stepped limits choice now (Input l.number (connect_packet false p)) b)
     → p.line.old ≡ shake (CONNECT false) ∷ [] → p.line.old_number ≡ Some l.number → IsApart p.line.number p.line.old_number → line_at l.number b ≡ Some l → l.session ≡ None → l.keep_alive ≡ 0
     → session_named p.client b.records ≡ None → Present None k p.line b

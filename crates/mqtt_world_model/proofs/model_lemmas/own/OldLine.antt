@@ -8,7 +8,7 @@ use Rattle.mqtt_packet.specs.declared.codec.packet.Packet.TheVariants.{Publish, 
 use Rattle.mqtt_flow.specs.inbound.Publisher.{FromPublisher, ToPublisher}
 use Rattle.mqtt_flow.specs.inbound.InboundWorld.{World as Hop}
 use Rattle.mqtt_records.specs.declared.state.session.Session.{Session}
-use Rattle.mqtt_rules.specs.declared.step.Limits.{Limits}
+use Rattle.mqtt_rules.specs.declared.step.Capacity.{Capacity}
 use Rattle.mqtt_rules.specs.step.State.{MemberChoice, Line as BrokerLine, Broker, session_named}
 use Rattle.mqtt_rules.specs.step.Deeds.{Deed, output, closing, after_all}
 use Rattle.mqtt_rules.specs.step.Step.{Call, Input, at_moment, deeds, stepped}
@@ -44,7 +44,7 @@ abbrev pub AreElsewhere : List ℕ → ℕ → ℕ → List Deed → Type 0
 AreElsewhere client birth n ds = (m : ℕ) → nat_eq n m ≡ false → AreFar client (suc birth) m ds
 
 -- it sees what the deeds give its session, and no answer
-pub old_sees : (limits : Limits) (choice : MemberChoice) (now : ℕ) (call : Call) (p : Publisher) (rest : List Sent) (packet : Sent) (l : BrokerLine) (s : Session) (b : Broker)
+pub old_sees : (limits : Capacity) (choice : MemberChoice) (now : ℕ) (call : Call) (p : Publisher) (rest : List Sent) (packet : Sent) (l : BrokerLine) (s : Session) (b : Broker)
     (accepted : List ℕ) (f : Face) (on : Option (Option ℕ)) (ps : List ToPublisher) (t : Bool) (count : List ℕ)
     → p.line.old ≡ packet ∷ rest → IsLingering p l s b → f.client ≡ p.client
     → Gives s.birth l.number (deeds limits choice now call b) (at_moment now b) f on ps t count → AreElsewhere p.client s.birth l.number (deeds limits choice now call b)
@@ -95,7 +95,7 @@ IsOwn (Pubrel a) = ⊤
 IsOwn packet = ⊥
 
 -- their deeds leave every other line alone
-pub elsewhere : (limits : Limits) (choice : MemberChoice) (now : ℕ) (p : Publisher) (packet : Packet) (l : BrokerLine) (s : Session) (b : Broker) → IsOwn packet → IsLingering p l s b
+pub elsewhere : (limits : Capacity) (choice : MemberChoice) (now : ℕ) (p : Publisher) (packet : Packet) (l : BrokerLine) (s : Session) (b : Broker) → IsOwn packet → IsLingering p l s b
     → AreElsewhere p.client s.birth l.number (deeds limits choice now (Input l.number packet) b)
 elsewhere limits choice now p (Publish x) l s b q c =
     λ m h. far_elsewhere p.client (suc s.birth) m l s (further s.birth) h limits choice now (Publish x) b tt c.line c.connected c.session c.no_will c.no_end

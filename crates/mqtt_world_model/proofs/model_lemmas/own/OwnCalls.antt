@@ -8,7 +8,7 @@ use Rattle.mqtt_packet.specs.declared.codec.packet.Packet.{Packet}
 use Rattle.mqtt_flow.specs.inbound.Publisher.{FromPublisher, CONNECT, PUBLISH_1, PUBLISH_2, PUBREL}
 use Rattle.mqtt_flow.specs.inbound.InboundWorld.{World as Hop, takes, refuses, to_broker, spared, broker_reads, on_connect, step}
 use Rattle.mqtt_records.specs.declared.state.session.Session.{Session}
-use Rattle.mqtt_rules.specs.declared.step.Limits.{Limits}
+use Rattle.mqtt_rules.specs.declared.step.Capacity.{Capacity}
 use Rattle.mqtt_rules.specs.step.State.{MemberChoice, Line as BrokerLine, Broker, session_named, line_at, line_of, is_of}
 use Rattle.mqtt_rules.specs.step.Deeds.{Hear, Deed, On, closing, after_all, rows_of_all}
 use Rattle.mqtt_rules.specs.step.Step.{Input, at_moment, env_of, deeds, stepped, told}
@@ -38,7 +38,7 @@ pub differs : (n m : ℕ) → (n ≡ m → ⊥) → nat_eq n m ≡ false
 differs n m h = elim (cases_Bool (nat_eq n m)) [ inl same ↦ absurd (h (eqb-true n m same)) | inr other ↦ other ]
 
 -- a packet on one line leaves another one alone
-pub input_elsewhere : (limits : Limits) (choice : MemberChoice) (now n : ℕ) (packet : Packet) (x : Option ℕ) (b : Broker) → ((m : ℕ) → x ≡ Some m → n ≡ m → ⊥)
+pub input_elsewhere : (limits : Capacity) (choice : MemberChoice) (now n : ℕ) (packet : Packet) (x : Option ℕ) (b : Broker) → ((m : ℕ) → x ≡ Some m → n ≡ m → ⊥)
     → AreElsewhere x (deeds limits choice now (Input n packet) b) (at_moment now b)
 input_elsewhere limits choice now n packet None b h = tt
 input_elsewhere limits choice now n packet (Some m) b h = λ idle. elsewhere m (env_of limits choice b) (Input n packet) (at_moment now b) idle (differs n m (h m refl))
@@ -51,7 +51,7 @@ former_taken o k l b (lingers birth own is calm there) = lingers birth own is ca
 -- ---- a packet of its session
 
 -- a packet on the publisher's line is steps of the hop
-pub packet_comes : (limits : Limits) (choice : MemberChoice) (now : ℕ) (p : Publisher) (rest : List Sent) (packet : Sent) (l : BrokerLine) (s : Session) (b : Broker) (accepted : List ℕ)
+pub packet_comes : (limits : Capacity) (choice : MemberChoice) (now : ℕ) (p : Publisher) (rest : List Sent) (packet : Sent) (l : BrokerLine) (s : Session) (b : Broker) (accepted : List ℕ)
     → p.line.up ≡ packet ∷ rest → IsNoConnect packet → IsConnected p l s b → IsApart p.line.number p.line.old_number → IsHis p.client (Some s.birth) l.number b → Former (Some s.birth) l.number p.line b
     → Comes l.number p (after_step limits choice now (Input l.number (wire p.client p.contents packet)) p b) b (stepped limits choice now (Input l.number (wire p.client p.contents packet)) b)
     accepted (accepted ++ each_of (message_in packet) (deeds limits choice now (Input l.number (wire p.client p.contents packet)) b))
@@ -194,7 +194,7 @@ linked_on client birth n b own h = elim (own_on birth n b.lines own.lines) [
 
 -- ---- the CONNECT that it waits for
 
-abbrev pub Connected : Limits → MemberChoice → ℕ → Bool → ℕ → Publisher → BrokerLine → Broker → List ℕ → Type 0
+abbrev pub Connected : Capacity → MemberChoice → ℕ → Bool → ℕ → Publisher → BrokerLine → Broker → List ℕ → Type 0
 Connected limits choice now clean k p l b accepted =
     Comes k p (after_step limits choice now (Input l.number (connect_packet clean p)) p b) b (stepped limits choice now (Input l.number (connect_packet clean p)) b) accepted accepted
 
@@ -205,7 +205,7 @@ hop_linked false true w = refl
 hop_linked clean false w = refl
 
 -- it takes the session over, or begins a new one: the line that it gave up is closed, if the session was connected there
-connect_seat : (limits : Limits) (choice : MemberChoice) (now : ℕ) (clean : Bool) (p : Publisher) (l : BrokerLine) (birth k new_birth : ℕ) (b : Broker) (accepted : List ℕ)
+connect_seat : (limits : Capacity) (choice : MemberChoice) (now : ℕ) (clean : Bool) (p : Publisher) (l : BrokerLine) (birth k new_birth : ℕ) (b : Broker) (accepted : List ℕ)
     → p.line.up ≡ shake (CONNECT clean) ∷ [] → p.line.number ≡ Some l.number → IsApart p.line.number p.line.old_number → Own p.client birth k b → Former (Some birth) k p.line b
     → filter_map closing (deeds limits choice now (Input l.number (connect_packet clean p)) b) ≡ lines_left (line_of birth b)
     → is_some (session_named p.client b.records) ≡ true
@@ -256,7 +256,7 @@ asking_of p l s k b is at waits idle kept own former = record {
 }
 
 -- a CONNECT to the publisher's session is a step of the hop
-pub kept_connect : (limits : Limits) (choice : MemberChoice) (now : ℕ) (clean : Bool) (p : Publisher) (l : BrokerLine) (s : Session) (k : ℕ) (b : Broker) (accepted : List ℕ)
+pub kept_connect : (limits : Capacity) (choice : MemberChoice) (now : ℕ) (clean : Bool) (p : Publisher) (l : BrokerLine) (s : Session) (k : ℕ) (b : Broker) (accepted : List ℕ)
     → IsNamed p.client → IsSound limits p.client b → IsInOrder (stepped limits choice now (Input l.number (connect_packet clean p)) b)
     → p.line.up ≡ shake (CONNECT clean) ∷ [] → p.line.number ≡ Some l.number → IsApart p.line.number p.line.old_number → line_at l.number b ≡ Some l → l.session ≡ None → l.keep_alive ≡ 0 → IsIdle l.number b
     → IsKept p.client s b → IsHis p.client (Some s.birth) k b → Former (Some s.birth) k p.line b
@@ -280,7 +280,7 @@ not_some None e = refl
 not_some (Some s) e = absurd cc
 
 -- a CONNECT without a session of the publisher's is a step of the hop
-pub first_connect : (limits : Limits) (choice : MemberChoice) (now : ℕ) (clean : Bool) (p : Publisher) (l : BrokerLine) (k : ℕ) (b : Broker) (accepted : List ℕ)
+pub first_connect : (limits : Capacity) (choice : MemberChoice) (now : ℕ) (clean : Bool) (p : Publisher) (l : BrokerLine) (k : ℕ) (b : Broker) (accepted : List ℕ)
     → IsNamed p.client → IsSound limits p.client b → IsInOrder (stepped limits choice now (Input l.number (connect_packet clean p)) b)
     → p.line.up ≡ shake (CONNECT clean) ∷ [] → p.line.number ≡ Some l.number → IsApart p.line.number p.line.old_number → line_at l.number b ≡ Some l → l.session ≡ None → l.keep_alive ≡ 0 → IsIdle l.number b
     → session_named p.client b.records ≡ None → Former None k p.line b

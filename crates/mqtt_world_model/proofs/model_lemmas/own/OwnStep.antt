@@ -8,7 +8,7 @@ use Rattle.mqtt_flow.specs.inbound.Inbound.{answer_to, ids_on}
 use Rattle.mqtt_flow.specs.inbound.Publisher.{FromPublisher, ToPublisher}
 use Rattle.mqtt_flow.specs.inbound.InboundWorld.{World as Hop, Choice, takes, takes_unheard, refuses, Verdict, accept, refuse, repeat, shut, verdict_on, ids_by}
 use Rattle.mqtt_records.specs.declared.state.session.Session.{Session}
-use Rattle.mqtt_rules.specs.declared.step.Limits.{Limits}
+use Rattle.mqtt_rules.specs.declared.step.Capacity.{Capacity}
 use Rattle.mqtt_rules.specs.step.State.{MemberChoice, Line as BrokerLine, Broker, session_at, line_at}
 use Rattle.mqtt_rules.specs.step.Deeds.{Deed, Hear, On, closing, after, after_all, always, series, with_session, with_line}
 use Rattle.mqtt_rules.specs.step.Step.{Call, Input, next_packet, on_packet, at_moment, env_of, deeds, stepped}
@@ -29,7 +29,7 @@ abbrev pub heard_of : ℕ → ℕ → Broker → Broker
 heard_of now n b = after (On n Hear) (at_moment now b)
 
 -- a packet on the publisher's line is heard and answered
-pub input_is : (limits : Limits) (choice : MemberChoice) (now : ℕ) (packet : Packet) (l : BrokerLine) (s : Session) (b : Broker)
+pub input_is : (limits : Capacity) (choice : MemberChoice) (now : ℕ) (packet : Packet) (l : BrokerLine) (s : Session) (b : Broker)
     → line_at l.number b ≡ Some l → l.session ≡ Some s.birth → session_at s.birth b.records ≡ Some s
     → deeds limits choice now (Input l.number packet) b
     ≡ On l.number Hear ∷ (next_packet (env_of limits choice b) l packet s (heard_of now l.number b) ++ [])
@@ -42,7 +42,7 @@ input_is limits choice now packet l s b line on at =
     ∙ ap (λ (o : Option Session). On l.number Hear ∷ (with_session o (next_packet env l packet) d ++ [])) at)
 
 -- what the packet does, the call does
-pub input_gives : (limits : Limits) (choice : MemberChoice) (now : ℕ) (packet : Packet) (l : BrokerLine) (s : Session) (b : Broker) (f : Face) (on : Option (Option ℕ)) (ps : List ToPublisher) (t : Bool) (count : List ℕ)
+pub input_gives : (limits : Capacity) (choice : MemberChoice) (now : ℕ) (packet : Packet) (l : BrokerLine) (s : Session) (b : Broker) (f : Face) (on : Option (Option ℕ)) (ps : List ToPublisher) (t : Bool) (count : List ℕ)
     → line_at l.number b ≡ Some l → l.session ≡ Some s.birth → session_at s.birth b.records ≡ Some s
     → Gives s.birth l.number (next_packet (env_of limits choice b) l packet s (heard_of now l.number b)) (heard_of now l.number b) f on ps t count
     → Gives s.birth l.number (deeds limits choice now (Input l.number packet) b) (at_moment now b) f on ps t count
@@ -81,7 +81,7 @@ among_one n None ds h others = refl
 among_one n (Some m) ds h others = among_closed m ds ∙ others m (not_the_one n m h)
 
 -- the publisher sees what the deeds of the packet give
-pub sees : (limits : Limits) (choice : MemberChoice) (now : ℕ) (call : Call) (p : Publisher) (rest : List Sent) (packet : Sent) (l : BrokerLine) (s : Session) (b : Broker)
+pub sees : (limits : Capacity) (choice : MemberChoice) (now : ℕ) (call : Call) (p : Publisher) (rest : List Sent) (packet : Sent) (l : BrokerLine) (s : Session) (b : Broker)
     (accepted : List ℕ) (f : Face) (on : Option (Option ℕ)) (ps : List ToPublisher) (t : Bool) (count : List ℕ)
     → p.line.up ≡ packet ∷ rest → IsConnected p l s b → f.client ≡ p.client
     → Gives s.birth l.number (deeds limits choice now call b) (at_moment now b) f on ps t count

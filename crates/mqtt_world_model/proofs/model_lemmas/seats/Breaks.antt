@@ -3,7 +3,7 @@ use Rattle.std.proofs.Common.{◌≡◌, ℕ, Bool, true, List, [], ◌∷◌, �
 use Rattle.std.specs.Prelude.{option_map, find, filter_map, is_some}
 use Rattle.mqtt_flow.specs.inbound.InboundWorld.{break, step}
 use Rattle.mqtt_records.specs.declared.state.session.Session.{Session}
-use Rattle.mqtt_rules.specs.declared.step.Limits.{Limits}
+use Rattle.mqtt_rules.specs.declared.step.Capacity.{Capacity}
 use Rattle.mqtt_rules.specs.step.State.{MemberChoice, Line as BrokerLine, Broker, session_at, session_named, line_at}
 use Rattle.mqtt_rules.specs.step.Deeds.{whose, Close, Deed, At, Gone, closing, after, after_all, rows_of_all, with_line, with_session}
 use Rattle.mqtt_rules.specs.step.Closing.{never, close, close_connected, close_session}
@@ -20,7 +20,7 @@ use Rattle.mqtt_world_model.proofs.model_lemmas.others.Frame.{own_done}
 use Rattle.mqtt_world_model.proofs.model_lemmas.seats.Mine.{AreMine, mine_owns}
 
 -- the deeds of a line that is lost
-pub lost_is : (limits : Limits) (choice : MemberChoice) (now : ℕ) (l : BrokerLine) (s : Session) (b : Broker) → line_at l.number b ≡ Some l → l.session ≡ Some s.birth → session_at s.birth b.records ≡ Some s
+pub lost_is : (limits : Capacity) (choice : MemberChoice) (now : ℕ) (l : BrokerLine) (s : Session) (b : Broker) → line_at l.number b ≡ Some l → l.session ≡ Some s.birth → session_at s.birth b.records ≡ Some s
     → s.will ≡ None → s.expiry ≡ never
     → deeds limits choice now (Lost l.number) b ≡ Gone l.number ∷ At (whose s) (Close (at_moment now b).now) ∷ []
 lost_is limits choice now l s b line on at no_will no_end =
@@ -33,7 +33,7 @@ lost_is limits choice now l s b line on at no_will no_end =
     ∙ (ap (λ (o : Option Session). with_session o (close_session env true) c) at ∙ session_closes env s c at no_will no_end))
 
 -- a lost line is a break of the hop
-pub break_is_hop : (limits : Limits) (choice : MemberChoice) (now : ℕ) (p : Publisher) (l : BrokerLine) (s : Session) (b : Broker) (accepted : List ℕ) → IsConnected p l s b
+pub break_is_hop : (limits : Capacity) (choice : MemberChoice) (now : ℕ) (p : Publisher) (l : BrokerLine) (s : Session) (b : Broker) (accepted : List ℕ) → IsConnected p l s b
     → seen accepted (lost_by limits choice now l.number p b) (stepped limits choice now (Lost l.number) b)
     ≡ step (seen accepted p b) break
 break_is_hop limits choice now p l s b accepted c =
@@ -59,7 +59,7 @@ break_is_hop limits choice now p l s b accepted c =
     λ i. record (step (seen accepted p b) break) { old = olds i; stands = stands i; ids = ids i }
 
 -- and the session stays the publisher's own
-pub break_owns : (limits : Limits) (choice : MemberChoice) (now : ℕ) (p : Publisher) (l : BrokerLine) (s : Session) (b : Broker) → IsConnected p l s b → Own p.client s.birth l.number b
+pub break_owns : (limits : Capacity) (choice : MemberChoice) (now : ℕ) (p : Publisher) (l : BrokerLine) (s : Session) (b : Broker) → IsConnected p l s b → Own p.client s.birth l.number b
     → Own p.client s.birth l.number (stepped limits choice now (Lost l.number) b)
 break_owns limits choice now p l s b c own =
     let ds = deeds limits choice now (Lost l.number) b in

@@ -15,7 +15,7 @@ use Rattle.mqtt_flow.specs.inbound.Publisher.{Qos, qos_1, qos_2, first_packet, C
 use Rattle.mqtt_flow.specs.inbound.InboundWorld.{World as Hop, Event as HopEvent, publish, connect, give_up, step, run, Heard, ConnectsAlone}
 use Rattle.mqtt_flow.specs.inbound.InboundWorld as hop
 use Rattle.mqtt_flow.proofs.inbound_lemmas.inbound.Heard.{alone_run, heard_run}
-use Rattle.mqtt_rules.specs.declared.step.Limits.{Limits}
+use Rattle.mqtt_rules.specs.declared.step.Capacity.{Capacity}
 use Rattle.mqtt_rules.specs.step.State.{MemberChoice, Line as BrokerLine, Broker, line_at}
 use Rattle.mqtt_rules.specs.step.Deeds.{Link as Linked, Deed, fresh_line, after_all, rows_of_all}
 use Rattle.mqtt_rules.specs.step.Lines.{line_number}
@@ -420,8 +420,8 @@ fresh_glance n now [] low = let it = nat_eq_equiv.refl n in rw it refl
 fresh_glance n now (l ∷ ls) low = let less = low.0 in rw (apart l.number n (λ same. omega (arith, same, less))) (fresh_glance n now ls low.1)
 
 -- connecting is a step of the hop
-pub joins : (limits : Limits) (choice : MemberChoice) (now : ℕ) (clean : Bool) (o : Option ℕ) (k : ℕ) (p : Publisher) (b : Broker) (accepted : List ℕ)
-    → Seat o k p b → IsNamed p.client → MayJoin clean p b
+pub joins : (limits : Capacity) (choice : MemberChoice) (now : ℕ) (clean : Bool) (o : Option ℕ) (k : ℕ) (p : Publisher) (b : Broker) (accepted : List ℕ)
+    → Seat o k p b → IsNamed p.client → MayJoin limits clean p b
     → Comes k p (joined_by limits choice now clean p b) b (stepped limits choice now NewLine b) accepted accepted
 joins limits choice now clean o k p b accepted seat named may =
     let ds = deeds limits choice now NewLine b in

@@ -7,7 +7,7 @@ use Rattle.mqtt_records.proofs.lists_lemmas.OrderLemmas.{apart}
 use Rattle.mqtt_flow.specs.inbound.Line.{Link, away, asked}
 use Rattle.mqtt_flow.specs.inbound.Publisher.{CONNECT}
 use Rattle.mqtt_flow.specs.inbound.InboundWorld.{connect, on_join, step}
-use Rattle.mqtt_rules.specs.declared.step.Limits.{Limits}
+use Rattle.mqtt_rules.specs.declared.step.Capacity.{Capacity}
 use Rattle.mqtt_rules.specs.step.State.{Line as BrokerLine, Broker, MemberChoice, session_named}
 use Rattle.mqtt_rules.specs.step.Deeds.{Link as Linked, fresh_line, after}
 use Rattle.mqtt_rules.specs.step.Lines.{line_number}
@@ -18,11 +18,11 @@ use Rattle.mqtt_world_model.specs.model.Seen.{qos_of_draft, shaken, is_linked, h
 use Rattle.mqtt_world_model.specs.model.Hops.{joined_by, MayJoin}
 
 -- the broker after it: a line is given, and nothing is told
-pub new_is : (limits : Limits) (choice : MemberChoice) (now : ℕ) (b : Broker) → can_link b ≡ true → stepped limits choice now NewLine b ≡ after (Linked (suc b.given)) (at_moment now b)
+pub new_is : (limits : Capacity) (choice : MemberChoice) (now : ℕ) (b : Broker) → can_link limits b ≡ true → stepped limits choice now NewLine b ≡ after (Linked (suc b.given)) (at_moment now b)
 new_is limits choice now b can = ap (λ (t : Bool). done (cond t (Linked (suc b.given) ∷ []) []) (at_moment now b)) can
 
 -- a new line tells nothing
-pub told_none : (limits : Limits) (choice : MemberChoice) (now : ℕ) (b : Broker) → can_link b ≡ true → told limits choice now NewLine b ≡ nothing_told
+pub told_none : (limits : Capacity) (choice : MemberChoice) (now : ℕ) (b : Broker) → can_link limits b ≡ true → told limits choice now NewLine b ≡ nothing_told
 told_none limits choice now b can = ap (λ (t : Bool). outcome_of NewLine (cond t (Linked (suc b.given) ∷ []) []) (at_moment now b)) can
 
 -- nobody is connected on a line that was just given
@@ -43,7 +43,7 @@ carries true new h = h refl
 carries false new h = refl
 
 -- a publisher's joining a new line is a CONNECT of the hop
-pub join_is_hop : (limits : Limits) (choice : MemberChoice) (now : ℕ) (clean : Bool) (p : Publisher) (b : Broker) (accepted : List ℕ) → MayJoin clean p b
+pub join_is_hop : (limits : Capacity) (choice : MemberChoice) (now : ℕ) (clean : Bool) (p : Publisher) (b : Broker) (accepted : List ℕ) → MayJoin limits clean p b
     → seen accepted (joined_by limits choice now clean p b) (stepped limits choice now NewLine b) ≡ step (seen accepted p b) (connect clean)
 join_is_hop limits choice now clean p b accepted may =
     let new = stepped limits choice now NewLine b in

@@ -26,7 +26,7 @@ use Rattle.mqtt_rules.specs.step.Deeds.{Message, FromClient, Part, Resume, Close
 use Rattle.mqtt_rules.specs.step.Routing.{CopyTo, accepted_copies, publish, is_wanted}
 use Rattle.mqtt_rules.specs.step.Closing.{never, drop_line}
 use Rattle.mqtt_rules.specs.step.Step.{Input, next_packet, env_of, at_moment, deeds, stepped}
-use Rattle.mqtt_rules.specs.declared.step.Limits.{Limits}
+use Rattle.mqtt_rules.specs.declared.step.Capacity.{Capacity}
 use Rattle.mqtt_rules.specs.step.Inbound.{Meaning, Means, Wrong, meaning, sets_alias, standing, answer, opens, code_again, code_accepted, publish_new, publish_by, message_of, publish_meant, release_by}
 use Rattle.mqtt_rules.proofs.step_lemmas.flight.FlightRows.{all_at}
 use Rattle.mqtt_flow.specs.inbound.Publisher.{CONNECT, PUBLISH_1, PUBLISH_2, PUBREL}
@@ -210,7 +210,7 @@ module _ (client : List ℕ) (birth n : ℕ) where
   mine_next env l packet s b q at on w e = absurd q
 
   -- a PUBLISH or PUBREL of its own keeps session and line the publisher's
-  pub mine_call : (limits : Limits) (choice : MemberChoice) (now : ℕ) (packet : Packet) (l : Line) (s : Session) (b : Broker) → IsOwnPacket packet
+  pub mine_call : (limits : Capacity) (choice : MemberChoice) (now : ℕ) (packet : Packet) (l : Line) (s : Session) (b : Broker) → IsOwnPacket packet
       → line_at l.number b ≡ Some l → l.session ≡ Some s.birth → session_at s.birth b.records ≡ Some s → s.will ≡ None → s.expiry ≡ never
       → AreMine (deeds limits choice now (Input l.number packet) b)
   mine_call limits choice now packet l s b q line on at w e =
@@ -219,7 +219,7 @@ module _ (client : List ℕ) (birth n : ℕ) where
       (inl (inl tt), mine_append own [] (mine_next (env_of limits choice b) l packet s (heard_of now l.number b) q at on w e) tt)
 
 -- the session and the line stay the publisher's after its own PUBLISH or PUBREL
-pub own_packet_stays : (limits : Limits) (choice : MemberChoice) (now : ℕ) (packet : Packet) (l : Line) (s : Session) (client : List ℕ) (n : ℕ) (b : Broker) → IsOwnPacket client s.birth n packet
+pub own_packet_stays : (limits : Capacity) (choice : MemberChoice) (now : ℕ) (packet : Packet) (l : Line) (s : Session) (client : List ℕ) (n : ℕ) (b : Broker) → IsOwnPacket client s.birth n packet
     → line_at l.number b ≡ Some l → l.session ≡ Some s.birth → session_at s.birth b.records ≡ Some s → s.will ≡ None → s.expiry ≡ never
     → Own client s.birth n b → Own client s.birth n (stepped limits choice now (Input l.number packet) b)
 own_packet_stays limits choice now packet l s client n b q line on at w e own =
@@ -229,7 +229,7 @@ own_packet_stays limits choice now packet l s client n b q line on at w e own =
     own_done client s.birth n (rows_of_all ds start.records) (after_all ds start) (mine_owns client s.birth n ds start (mine_call client s.birth n limits choice now packet l s b q line on at w e) o)
 
 -- each of its packets but CONNECT
-pub sent_stays : (limits : Limits) (choice : MemberChoice) (now : ℕ) (p : Publisher) (packet : Sent) (l : Line) (s : Session) (b : Broker) → IsNoConnect packet → IsConnected p l s b → Own p.client s.birth l.number b
+pub sent_stays : (limits : Capacity) (choice : MemberChoice) (now : ℕ) (p : Publisher) (packet : Sent) (l : Line) (s : Session) (b : Broker) → IsNoConnect packet → IsConnected p l s b → Own p.client s.birth l.number b
     → Own p.client s.birth l.number (stepped limits choice now (Input l.number (wire p.client p.contents packet)) b)
 sent_stays limits choice now p packet l s b other x own = own_packet_stays limits choice now (wire p.client p.contents packet) l s p.client l.number b (is_own packet other) x.line x.connected x.session x.no_will x.no_end own
   where

@@ -7,7 +7,7 @@ use Rattle.std.proofs.lemmas.Cmp.{nat_eq_equiv}
 use Rattle.mqtt_flow.specs.inbound.Publisher.{ToPublisher}
 use Rattle.mqtt_records.specs.declared.state.session.Session.{Session}
 use Rattle.mqtt_records.specs.declared.state.change.Change.{Change}
-use Rattle.mqtt_rules.specs.declared.step.Limits.{Limits}
+use Rattle.mqtt_rules.specs.declared.step.Capacity.{Capacity}
 use Rattle.mqtt_rules.specs.step.State.{MemberChoice, Line as BrokerLine, Broker, line_at, is_of}
 use Rattle.mqtt_rules.specs.step.Deeds.{Part, Resume, Close, SetExpiry, DropWill, Subscribe, Unsubscribe, Open, Release, Enter, Mark, Leave, LinePart, Hear, Greet, SetAlias, Went, Deed, Accept, Begin, Name, Count, At, Finish, Keep, Forget, RefuseWill, Link, On, Send, Gone, closing, line_after, on_line, without_place, lines_at, lines_after, fresh_line, after, after_all, rows_of_all}
 use Rattle.mqtt_rules.specs.step.Step.{Call, Outcome, at_moment, deeds, stepped, told}
@@ -150,7 +150,7 @@ empty_stays false xs e = e
 
 -- ---- after a step that keeps the session and the line its own
 
-module _ (limits : Limits) (choice : MemberChoice) (now : ℕ) (call : Call) (b : Broker) where
+module _ (limits : Capacity) (choice : MemberChoice) (now : ℕ) (call : Call) (b : Broker) where
   abbrev ds : List Deed
   ds = deeds limits choice now call b
 

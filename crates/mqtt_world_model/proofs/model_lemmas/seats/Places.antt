@@ -10,7 +10,7 @@ use Rattle.mqtt_records.specs.declared.state.records.Records.{Records}
 use Rattle.mqtt_records.specs.declared.state.session.Session.{Session}
 use Rattle.mqtt_records.specs.state.Records.{changed_all}
 use Rattle.mqtt_records.specs.state.Session.{birth_of, with_copy}
-use Rattle.mqtt_rules.specs.declared.step.Limits.{Limits}
+use Rattle.mqtt_rules.specs.declared.step.Capacity.{Capacity}
 use Rattle.mqtt_rules.specs.step.State.{Broker, Env, MemberChoice, session_at, session_named, stored}
 use Rattle.mqtt_rules.specs.step.Deeds.{Accept, At, Begin, Count, Deed, Enter, Finish, Forget, Gone, Keep, Link, Name, On, Part, RefuseWill, Send, new_entry, part_rows_of, stored_after}
 use Rattle.mqtt_rules.specs.step.Step.{Call, env_of, opened, stepped, unopened}
@@ -92,14 +92,14 @@ place_keeping : (env : Env) (client : List ℕ) → Keeping env (HasPlace env.li
 place_keeping env client = roomy_keeps env (HasPlace env.limits client) (place_roomy env client)
 
 -- a call leaves a client its place, whoever it is made for
-pub step_place : (limits : Limits) (choice : MemberChoice) (now : ℕ) (call : Call) (client : List ℕ) (b : Broker) → HasPlace limits client (stored b) → HasPlace limits client (stored (stepped limits choice now call b))
+pub step_place : (limits : Capacity) (choice : MemberChoice) (now : ℕ) (call : Call) (client : List ℕ) (b : Broker) → HasPlace limits client (stored b) → HasPlace limits client (stored (stepped limits choice now call b))
 step_place limits choice now call client b h = step_keeps limits choice now call b (HasPlace limits client) (λ d c. ⊤) (place_keeping (env_of limits choice b) client) h
 
 -- and so does an opening
-pub opening_place : (limits : Limits) (choice : MemberChoice) (now : ℕ) (client : List ℕ) (r : Records) → HasPlace limits client r → HasPlace limits client (stored (opened limits choice now r))
+pub opening_place : (limits : Capacity) (choice : MemberChoice) (now : ℕ) (client : List ℕ) (r : Records) → HasPlace limits client r → HasPlace limits client (stored (opened limits choice now r))
 opening_place limits choice now client r h =
     opening_keeps limits choice now r (HasPlace limits client) (λ d c. ⊤) (place_keeping (env_of limits choice (unopened now r)) client) h
 
 -- if no session of its name stands, nothing is asked of the table
-pub no_place_asked : (limits : Limits) (client : List ℕ) (r : Records) → session_named client r ≡ None → HasPlace limits client r
+pub no_place_asked : (limits : Capacity) (client : List ℕ) (r : Records) → session_named client r ≡ None → HasPlace limits client r
 no_place_asked limits client r none stands = let clash : true ≡ false = sym stands ∙ ap is_some none in absurd cc

@@ -13,7 +13,7 @@ use Rattle.mqtt_records.specs.declared.state.session.Session.{Session}
 use Rattle.mqtt_records.specs.declared.state.change.Change.{Change}
 use Rattle.mqtt_records.specs.lists.Order.{row_at}
 use Rattle.mqtt_records.specs.state.Session.{birth_of, auto}
-use Rattle.mqtt_rules.specs.declared.step.Limits.{Limits}
+use Rattle.mqtt_rules.specs.declared.step.Capacity.{Capacity}
 use Rattle.mqtt_rules.specs.step.State.{MemberChoice, Line as BrokerLine, Broker, session_at, session_named, line_at}
 use Rattle.mqtt_rules.specs.step.Deeds.{Deed, Gone, after_all, rows_of_all}
 use Rattle.mqtt_rules.specs.step.Step.{Call, Outcome, with_moment, at_moment, deeds, stepped, told}
@@ -235,7 +235,7 @@ pub record Beholds (o : Option ℕ) (k : ℕ) (l : Line Sent) (b c : Broker) (ou
   pub downs : filter_map heard_in (l.down ++ sent_to l.number c out.outputs) ≡ filter_map heard_in l.down
   pub ups : (t : Bool) × (t ≡ true → is_linked l.number b ≡ false) × (filter_map shaken (unless_closed (is_one_of l.number out.closed) l.up) ≡ filter_map shaken (unless_closed t l.up))
 
-module _ (limits : Limits) (choice : MemberChoice) (now : ℕ) (call : Call) (client : List ℕ) (o : Option ℕ) (k : ℕ) (l : Line Sent) (b : Broker) where
+module _ (limits : Capacity) (choice : MemberChoice) (now : ℕ) (call : Call) (client : List ℕ) (o : Option ℕ) (k : ℕ) (l : Line Sent) (b : Broker) where
   abbrev ds : List Deed
   ds = deeds limits choice now call b
 
@@ -380,7 +380,7 @@ old_after true w = refl
 old_after false w = refl
 
 -- where the publisher is after a step of others, and what it saw of it
-pub far_step : (limits : Limits) (choice : MemberChoice) (now : ℕ) (call : Call) (o : Option ℕ) (k : ℕ) (p : Publisher) (b : Broker) (accepted : List ℕ)
+pub far_step : (limits : Capacity) (choice : MemberChoice) (now : ℕ) (call : Call) (o : Option ℕ) (k : ℕ) (p : Publisher) (b : Broker) (accepted : List ℕ)
     → Seat o k p b → AreFarFrom p.client o k p.line (deeds limits choice now call b) (at_moment now b)
     → Seat o k (publisher_told (stepped limits choice now call b) (told limits choice now call b) p) (stepped limits choice now call b)
     × ((es : List HopEvent) × (seen accepted (publisher_told (stepped limits choice now call b) (told limits choice now call b) p) (stepped limits choice now call b) ≡ run es (seen accepted p b)))

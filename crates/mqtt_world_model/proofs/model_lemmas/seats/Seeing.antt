@@ -9,7 +9,7 @@ use Rattle.mqtt_flow.specs.inbound.InboundWorld.{World as Hop}
 use Rattle.mqtt_records.specs.declared.state.session.Session.{Session}
 use Rattle.mqtt_records.specs.declared.state.change.Change.{Change}
 use Rattle.mqtt_records.specs.declared.state.records.Records.{Records}
-use Rattle.mqtt_rules.specs.declared.step.Limits.{Limits}
+use Rattle.mqtt_rules.specs.declared.step.Capacity.{Capacity}
 use Rattle.mqtt_rules.specs.step.State.{MemberChoice, Line as BrokerLine, Broker, session_at, session_named, line_at}
 use Rattle.mqtt_rules.specs.step.Deeds.{Deed, output, closing, after_all, rows_of_all}
 use Rattle.mqtt_rules.specs.step.Step.{Call, with_moment, at_moment, deeds, stepped}
@@ -98,7 +98,7 @@ named_face client birth r f only at is =
 -- ---- the world after a call, as its deeds leave it
 
 -- the session of a name
-pub named_after : (limits : Limits) (choice : MemberChoice) (now : ℕ) (call : Call) (client : List ℕ) (b : Broker)
+pub named_after : (limits : Capacity) (choice : MemberChoice) (now : ℕ) (call : Call) (client : List ℕ) (b : Broker)
     → session_named client (stepped limits choice now call b).records ≡ session_named client (after_all (deeds limits choice now call b) (at_moment now b)).records
 named_after limits choice now call client b =
     let ds = deeds limits choice now call b in
@@ -106,7 +106,7 @@ named_after limits choice now call client b =
     ap (λ (ss : List Session). find (λ (x : Session). bytes_eq x.client client) ss) (done_sessions (rows_of_all ds start.records) (after_all ds start))
 
 -- whether a session is connected on a line
-pub linked_after : (limits : Limits) (choice : MemberChoice) (now : ℕ) (call : Call) (n : ℕ) (b : Broker)
+pub linked_after : (limits : Capacity) (choice : MemberChoice) (now : ℕ) (call : Call) (n : ℕ) (b : Broker)
     → is_linked (Some n) (stepped limits choice now call b) ≡ linked_of (session_on n (after_all (deeds limits choice now call b) (at_moment now b)).lines)
 linked_after limits choice now call n b =
     let ds = deeds limits choice now call b in
@@ -115,7 +115,7 @@ linked_after limits choice now call n b =
     ∙ ap (λ (ls : List BrokerLine). linked_of (session_on n ls)) (done_lines (rows_of_all ds start.records) (after_all ds start))
 
 -- what is under way on a line to its end
-pub told_after : (limits : Limits) (choice : MemberChoice) (now : ℕ) (call : Call) (n : ℕ) (down : List Down) (b : Broker)
+pub told_after : (limits : Capacity) (choice : MemberChoice) (now : ℕ) (call : Call) (n : ℕ) (down : List Down) (b : Broker)
     → filter_map heard_in (down ++ sent_to (Some n) (stepped limits choice now call b) (filter_map output (deeds limits choice now call b)))
     ≡ filter_map heard_in down ++ told_to n (deeds limits choice now call b)
 told_after limits choice now call n down b =
@@ -151,7 +151,7 @@ pub record Shows (p : Publisher) (n : ℕ) (ds : List Deed) (b : Broker) (linked
   pub ids_is : open_in (session_named p.client (after_all ds b).records) ≡ ids
 
 -- after a step in which the first packet of its line was read, it sees what the deeds leave for it
-pub shown_is_seen : (limits : Limits) (choice : MemberChoice) (now : ℕ) (call : Call) (p : Publisher) (n : ℕ) (b : Broker) (accepted : List ℕ)
+pub shown_is_seen : (limits : Capacity) (choice : MemberChoice) (now : ℕ) (call : Call) (p : Publisher) (n : ℕ) (b : Broker) (accepted : List ℕ)
     (linked : Bool) (up : List FromPublisher) (ps : List ToPublisher) (old : List FromPublisher) (stands : Bool) (ids : List ℕ)
     → p.line.number ≡ Some n → Shows p n (deeds limits choice now call b) (at_moment now b) linked up ps old stands ids
     → seen accepted (after_step limits choice now call p b) (stepped limits choice now call b) ≡ hop_of accepted p linked up (filter_map heard_in p.line.down ++ ps) old stands ids

@@ -1,7 +1,7 @@
 use Rattle.std.proofs.Common.{◌≡◌, ap, sym, subst, inl, inr}
 use Rattle.std.specs.Prelude.{Err}
 use Rattle.mqtt_keep.specs.declared.keeping.keep.KeepError.TheVariants.{Disk}
-use Rattle.mqtt_rules.specs.declared.step.Limits.{Limits}
+use Rattle.mqtt_rules.specs.declared.step.Capacity.{Capacity}
 use Rattle.mqtt_broker_step.specs.Stepping.{Stepping}
 use Rattle.mqtt_broker.specs.stored.Finishing.{HoldsWhole}
 use Rattle.mqtt_broker.proofs.stored_lemmas.Answering.{refused_store, rest_again}
@@ -17,7 +17,7 @@ pub over-requires-clause-whole : goal.over-requires-clause-whole
 over-requires-clause-whole g c =
     let h = c.requires.begun in
     let held = (c.in-Ok.ensures.told h.0 h.1 h.2 h.3).held in
-    (held.after, subst (λ (l : Limits). HoldsWhole g.K.Keep c.store.new.keep l c.store.new.step.broker held.after) (sym (ap (λ (t : Stepping). t.limits) held.rest)) held.its)
+    (held.after, subst (λ (l : Capacity). HoldsWhole g.K.Keep c.store.new.keep l c.store.new.step.broker held.after) (sym (ap (λ (t : Stepping). t.limits) held.rest)) held.its)
 
 pub returns-in-Ok : goal.returns-in-Ok
 returns-in-Ok g c = λ first limits now whole u passed identifiers begun.

@@ -15,5 +15,5 @@ returns-clause-step c =
     let below = subst (λ (w : Stepping). IsBelow line_number (suc w.broker.given) w.broker.lines) (sym c.rest_at.ensures) c.requires.given in
     c.add_line.ensures
     ∙ (ap (λ (l : Line). at_rest v.limits (with_linked l v.broker)) (c.new-line.ensures ∙ ap (fresh_line c.in_ok-number.number) c.moment.ensures)
-    ∙ (ap (at_rest v.limits) (linked_is v.broker c.in_ok-number.number below (sym c.in_ok-number.ensures))
-    ∙ ap (λ (w : Stepping). at_rest w.limits (after_act links w.broker)) c.rest_at.ensures))
+    ∙ (ap (at_rest v.limits) (linked_is v.limits v.broker c.in_ok-number.number below (sym c.in_ok-number.ensures))
+    ∙ ap (λ (w : Stepping). at_rest w.limits (after_act (links w.limits) w.broker)) c.rest_at.ensures))

@@ -1,4 +1,5 @@
 use Rattle.std.proofs.Common.{◌≡◌, ap, sym, ◌∙◌}
+use Rattle.mqtt_rules.specs.declared.step.Capacity.{Capacity}
 use Rattle.mqtt_rules.specs.step.State.{Broker}
 use Rattle.mqtt_rules.specs.step.Step.{at_moment}
 use Rattle.mqtt_rules.specs.filling.Filling.{filled}
@@ -25,4 +26,7 @@ returns-clause-step g c =
     let fillings = g.K.Keep.fillings p.keep in
     let same : c.args.self.now.broker ≡ filled fillings p.step.broker = sym (ap (λ (r : Running _). r.broker) c.self.view_is) in
     linked c.args.self.now.limits c.args.moment c.args.self.now.broker (filled fillings c.link.new.self.broker)
-    (ap (λ (t : Stepping). filled fillings t.broker) c.link.ensures.step ∙ (link_fills fillings c.args.moment p.step.broker ∙ ap (λ (b : Broker). after_act links (at_moment c.args.moment b)) (sym same)))
+    (ap (λ (t : Stepping). filled fillings t.broker) c.link.ensures.step
+    ∙ (link_fills p.step.limits fillings c.args.moment p.step.broker
+    ∙ (ap (λ (b : Broker). after_act (links p.step.limits) (at_moment c.args.moment b)) (sym same)
+    ∙ ap (λ (l : Capacity). after_act (links l) (at_moment c.args.moment c.args.self.now.broker)) (ap (λ (r : Running _). r.limits) c.self.view_is))))

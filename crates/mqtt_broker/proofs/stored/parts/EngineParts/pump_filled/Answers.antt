@@ -1,7 +1,7 @@
 use Rattle.std.proofs.Common.{true, refl, ap, sym, subst, ◌∙◌}
 use Rattle.std.specs.Prelude.{Err}
 use Rattle.mqtt_base.specs.declared.limits.TheConstants.{PUMP_LIMIT}
-use Rattle.mqtt_rules.specs.declared.step.Limits.{Limits}
+use Rattle.mqtt_rules.specs.declared.step.Capacity.{Capacity}
 use Rattle.mqtt_rules.specs.step.Step.{Pump, at_moment}
 use Rattle.mqtt_rules.proofs.filling_lemmas.Equivalence.{broker_through}
 use Rattle.mqtt_broker_looks.specs.at_hand.Reading.{AskedAtMost}
@@ -105,7 +105,7 @@ pump_once-done-requires-clause-ready g c =
     let p = c.args.self.now in
     let h = c.requires.rest.its c.requires.running in
     let ready = c.fill.new.step.broker in
-    subst (λ (l : Limits). IsReady l ready) (sym (ap (λ (t : Stepping). t.limits) c.fill.ensures.rest))
+    subst (λ (l : Capacity). IsReady l ready) (sym (ap (λ (t : Stepping). t.limits) c.fill.ensures.rest))
     (ready_alike p.step.limits ready h.whole (broker_through ready p.step.broker h.whole c.fill.ensures.alike h.its.alike) (sound_ready p.step.limits h.whole h.its.sound))
 
 pub finish_filled-requires-clause-under_way : goal.finish_filled-requires-clause-under_way

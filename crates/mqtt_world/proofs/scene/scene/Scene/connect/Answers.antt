@@ -18,7 +18,7 @@ returns-then-not-may_link g c =
     left_alone g.K.Keep c.args.now c.args.client.now c.args.clean s.engine s.clients c.args.self.now c.silent.result c.silent.ensures
     c.self.view_is c.requires
     (λ ss. ap not (sym (c.is_away.ensures ∙ ap is_away (c.link_of.ensures (world_of c.args.now ss (played s.engine s.clients)))) ∙ c.if-not-is_away.false))
-    (none_next s.engine.running.broker (sym c.may_link.ensures ∙ c.if-not-may_link.true))
+    (none_next s.engine.running.limits s.engine.running.broker (sym c.may_link.ensures ∙ c.if-not-may_link.true))
 
 pub unreachable-requires : goal.unreachable-requires
 unreachable-requires g c =

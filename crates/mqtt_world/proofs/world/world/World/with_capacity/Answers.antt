@@ -3,7 +3,7 @@ use Rattle.mqtt_world.proofs.world_lemmas.Started.{begun_stands_in, starts_in}
 use Rattle.std.proofs.Common.{arith, min}
 use Rattle.mqtt_base.specs.declared.limits.TheConstants.{LAST_NUMBER}
 use Rattle.mqtt_world.proofs.scene_lemmas.Halted.{no_start}
-use Rattle.mqtt_world.proofs.world.world.World.new.Goals as goal
+use Rattle.mqtt_world.proofs.world.world.World.with_capacity.Goals as goal
 
 pub invariant_of-result : goal.invariant_of-result
 invariant_of-result g c =
