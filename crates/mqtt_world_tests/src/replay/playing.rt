@@ -1,6 +1,6 @@
 //! Scripts are replayed from nothing stored, in memory and over a store in SQL, and what they write is compared.
 
-ghost use Rattle.mqtt_rules.specs.step.Laws.{AreWithin};
+ghost use Rattle.mqtt_rules.specs.step.Laws.{AreWithin, unasked};
 
 use mqtt_flow::Full;
 use mqtt_keep::{Failure, FaultyKeep};
@@ -47,7 +47,7 @@ fn in_sql_within(
     written: &mut Vec<u8>,
     limits: Limits,
 ) -> Result<Played, ReplayFault>
-    requires within { AreWithin limits }
+    requires within { AreWithin (unasked limits) }
 {
     let Ok(conn) = Connection::open_in_memory(alloc) else {
         return Err(ReplayFault::Memory);
@@ -114,7 +114,7 @@ pub(crate) fn is_so_within(
     script: &str,
     text: &str,
 ) -> Result<bool, ReplayFault>
-    requires within { AreWithin limits }
+    requires within { AreWithin (unasked limits) }
 {
     let mut written = Vec::new(alloc);
     let mut reader = script.as_bytes();
