@@ -5,7 +5,6 @@ mod codes;
 mod connecting;
 mod filters;
 mod limits;
-mod message;
 mod moments;
 mod numbers;
 mod sessions;
@@ -20,7 +19,6 @@ pub use self::filters::{
     wants_retained,
 };
 pub use self::limits::is_late_expiry;
-pub use self::message::Message;
 pub use self::moments::{
     capped, expiry_due, interval_due, is_due, is_expired, is_past, is_silent, is_stale, later,
     seconds_waited, silence_due,

@@ -9,8 +9,7 @@ ghost use Rattle.mqtt_broker_queue.specs.publications.Choosing.{DoesSome, Leaves
 ghost use Rattle.mqtt_broker_queue.specs.publications.Delivering.{SameSessions};
 ghost use Rattle.mqtt_broker_acts.specs.closing.Wills.{message_at, will_at, publishes, publishes_will, ChoosesOnce};
 
-use mqtt_broker_looks::decided::Message;
-use mqtt_broker_queue::publications::{Router, Routing, publish};
+use mqtt_broker_queue::publications::{Message, Router, Routing, publish};
 use mqtt_broker_step::{Step, StepFault};
 use std::alloc::Global;
 

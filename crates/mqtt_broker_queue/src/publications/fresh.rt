@@ -9,9 +9,9 @@ ghost use Rattle.mqtt_rules.specs.step.Inbound.{publish_by};
 ghost use Rattle.mqtt_rules.specs.step.Routing.{subscribers};
 ghost use Rattle.mqtt_broker_queue.specs.publications.Choosing.{DoesSome, IsLawfulMessage, LeavesSome};
 
+use crate::publications::message::Message;
 use crate::publications::router::{Router, Routing};
 use crate::publications::taking::{publish_refused, publish_taken};
-use mqtt_broker_looks::decided::Message;
 use mqtt_broker_step::{Step, StepFault};
 use mqtt_packet::Delivery;
 use std::alloc::Global;

@@ -10,8 +10,8 @@ ghost use Rattle.mqtt_broker_queue.specs.publications.Delivering.{addressed_all,
 
 use crate::publications::copies::Copies;
 use crate::publications::delivering::deliver_copies;
+use crate::publications::message::Message;
 use crate::publications::retaining::retain;
-use mqtt_broker_looks::decided::Message;
 use mqtt_broker_step::{Step, StepFault};
 use std::alloc::Global;
 

@@ -6,7 +6,7 @@ ghost use Rattle.mqtt_rules.specs.step.Routing.{retain_by};
 ghost use Rattle.mqtt_broker_step.specs.Stepping.{Did, IsLeft};
 ghost use Rattle.mqtt_broker_queue.specs.publications.Retaining.{keeps, forgets_place};
 
-use mqtt_broker_looks::decided::Message;
+use crate::publications::message::Message;
 use mqtt_broker_step::{Step, StepFault};
 use mqtt_records::Boxed;
 use std::alloc::Global;

@@ -5,7 +5,7 @@ ghost use Rattle.mqtt_rules.specs.step.Routing.{subscribers};
 ghost use Rattle.mqtt_broker_queue.specs.publications.Choosing.{IsLawfulMessage, IsRouted};
 
 use crate::publications::copies::Copies;
-use mqtt_broker_looks::decided::Message;
+use crate::publications::message::Message;
 use mqtt_broker_step::{Step, StepFault};
 use std::alloc::Global;
 

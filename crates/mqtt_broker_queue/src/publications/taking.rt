@@ -13,9 +13,10 @@ ghost use Rattle.mqtt_broker_queue.specs.publications.Delivering.{addressed_all,
 
 use crate::publications::answering::{answer, open_by};
 use crate::publications::copies::Copies;
+use crate::publications::message::Message;
 use crate::publications::publishing::publish;
 use mqtt_base::Reason;
-use mqtt_broker_looks::decided::{Message, accepted_code};
+use mqtt_broker_looks::decided::accepted_code;
 use mqtt_broker_step::{Step, StepFault};
 use mqtt_packet::Delivery;
 use std::alloc::Global;

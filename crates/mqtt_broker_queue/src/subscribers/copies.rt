@@ -4,9 +4,8 @@ ghost use Rattle.mqtt_base.specs.declared.session.Cause.TheVariants.{Direct};
 ghost use Rattle.mqtt_broker_queue.specs.publications.Copies.{addressee};
 ghost use Rattle.mqtt_broker_queue.specs.subscribers.Indexing.{served_addressees, addressees, all_copied};
 
-use crate::publications::{Addressee, Copies};
+use crate::publications::{Addressee, Copies, Message};
 use mqtt_base::Cause;
-use mqtt_broker_looks::decided::Message;
 use mqtt_broker_step::StepFault;
 use mqtt_records::SubscriptionIdentifiers;
 use mqtt_routes::{Routed, RoutedCopy, Served};

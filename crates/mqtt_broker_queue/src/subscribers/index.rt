@@ -11,11 +11,10 @@ ghost use Rattle.mqtt_broker_step.specs.Stepping.{env_in};
 ghost use Rattle.mqtt_broker_step.specs.Undoing.{moment_of};
 ghost use Rattle.mqtt_broker_queue.specs.subscribers.Indexing.{IsFound, IsTakenAs, Serves, all_copied};
 
-use crate::publications::{Copies, Router, Routing};
+use crate::publications::{Copies, Message, Router, Routing};
 use crate::subscribers::copies::{copies_of, direct_copies};
 use crate::subscribers::look::Look;
 use mqtt_base::Qos;
-use mqtt_broker_looks::decided::Message;
 use mqtt_broker_step::{Step, StepFault};
 use mqtt_routes::{Routed, Routes, RoutesFault, Subscription};
 use mqtt_topic::TopicName;
