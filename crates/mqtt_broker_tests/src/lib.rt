@@ -1,5 +1,6 @@
 //! Tests of the broker over its public calls, as scripts: what it tells, what it refuses, streams that are cut, changed or made
-//! to cost much, want of memory, a store of which each call fails in turn, a store in SQL (MQTT 5.0, 2.1, 3, 4).
+//! to cost much, want of memory, a store of which each call fails in turn, a store in SQL; and what is published
+//! (MQTT 5.0, 2.1, 3, 4).
 #![tactic(auto)]
 
 #[cfg(test)]
@@ -28,6 +29,8 @@ mod kept;
 mod play;
 #[cfg(test)]
 mod playing;
+#[cfg(test)]
+mod publications;
 #[cfg(test)]
 mod reading;
 #[cfg(test)]

@@ -1,11 +1,11 @@
-//! What a PUBLISH means, and the publication that is made of it (3.3.2.1, 3.3.2.3.4).
+//! What a PUBLISH means (3.3.2.1, 3.3.2.3.4).
 
 use bytes::Bytes;
-use mqtt_base::{Qos, Text};
-use mqtt_broker_looks::decided::{Message, Unmeant, meaning, number_at};
+use mqtt_base::Text;
+use mqtt_broker_looks::decided::{Unmeant, meaning, number_at};
 use mqtt_packet::{Delivery, Publish};
 use mqtt_props::{PropFault, PropList, PropName, PropRef, ValueRef};
-use mqtt_topic::{Aliases, TopicName};
+use mqtt_topic::Aliases;
 use std::alloc::{AllocError, Global};
 use std::process::Abort;
 use std::test::Fail;
@@ -98,38 +98,5 @@ fn a_client_sends_no_subscription_identifier(rt: HostRuntime) -> Result<(), Fail
     );
     let identified = publish(alloc, "a/b", list)?;
     assert_eq!(rt; code(alloc, identified)?, Some(0x82));
-    Ok(())
-}
-
-/// What `p1` publishes by a PUBLISH to `a/b`.
-fn message(alloc: Global, publish: Publish) -> Result<Message, Fail> {
-    let client = text(alloc, "p1")?;
-    let topic = TopicName::parse(alloc, "a/b")?;
-    let made = Message::of_publish(alloc, &client, &topic, &publish);
-    drop(client);
-    drop(topic);
-    drop(publish);
-    Ok(made?)
-}
-
-#[test]
-fn a_publication_has_the_topic_that_is_meant(rt: HostRuntime) -> Result<(), Fail> {
-    let alloc = rt.alloc();
-    let list = one(alloc, PropName::TopicAlias, ValueRef::U16(3))?;
-    let message = message(alloc, publish(alloc, "", list)?)?;
-    assert_eq!(rt; message.sender().as_str(), "p1");
-    assert_eq!(rt; message.topic().as_str(), "a/b");
-    assert_eq!(rt; message.qos(), Qos::AtMostOnce);
-    assert!(rt; !message.retain(), "RETAIN is 0");
-    assert_eq!(rt; message.payload().len(), 0);
-    let kept = message.kept(5, 70, 2);
-    drop(message);
-    let kept = kept?;
-    assert_eq!(rt; kept.place, 2);
-    assert_eq!(rt; kept.publication, 5);
-    assert_eq!(rt; kept.content.arrived, 70);
-    let none = kept.content.properties.lend().is_empty();
-    assert!(rt; none, "an alias isn't passed on");
-    drop(kept);
     Ok(())
 }
