@@ -15,6 +15,7 @@ use std::alloc::Global;
 
 /// The message of a session's Will, if it stands and has one.
 fn message_at(alloc: Global, step: &Step, birth: u64) -> Result<Option<Message>, StepFault>
+    requires { IsWilled (will_at birth step.now.broker.records) }
     ensures exact { IfOk result (λ message. message ≡ message_at birth step.now.broker.records) }
     ensures fault { IfErr result (λ fault. fault ≡ StepFault.Memory) }
 {

@@ -1,5 +1,6 @@
 //! A publication before it has its number, and what is made of it (3.3.1.3, 3.3.4).
 ghost use Rattle.std.specs.Prelude.{◌≡◌, IfOk};
+ghost use Rattle.mqtt_topic.specs.names.Names.{IsTopicName};
 ghost use Rattle.mqtt_records.specs.messages.PassedOn.{passed_on};
 ghost use Rattle.mqtt_rules.specs.step.Inbound.{message_of};
 ghost use Rattle.mqtt_rules.specs.step.Closing.{will_message};
@@ -18,7 +19,7 @@ use std::marker::Model;
 #[derive(Drop)]
 pub struct Message {
     sender: Text,
-    topic: Text,
+    topic: TopicName,
     qos: Qos,
     retain: bool,
     properties: PassedOn,
@@ -37,72 +38,43 @@ impl Model for Message {
 #[derive(Drop)]
 struct Parts {
     sender: Text,
-    topic: Text,
+    topic: TopicName,
     properties: PassedOn,
     payload: Bytes,
 }
 
-/// Other owners of two texts.
-fn texts(sender: &Text, topic: &Text) -> Result<(Text, Text), AllocError>
-    ensures { IfOk result (λ texts. (texts.0 ≡ sender.now) × (texts.1 ≡ topic.now)) }
+/// The topic of a Will, which is a topic name. It shares the bytes.
+fn topic_of(will: &Will) -> Result<TopicName, AllocError>
+    requires { IsTopicName will.now.topic }
+    ensures { IfOk result (λ topic. topic ≡ will.now.topic) }
 {
-    let sender = sender.clone()?;
-    match topic.clone() {
-        Ok(topic) => Ok((sender, topic)),
-        Err(fault) => {
-            drop(sender);
-            Err(fault)
-        }
+    match TopicName::from_text(will.topic.clone()?) {
+        Ok(topic) => Ok(topic),
+        Err(_) => unreachable!(),
     }
 }
 
-/// What is passed on of properties, and another owner of a payload.
-fn contents(
-    alloc: Global,
-    list: &PropsRef<'_>,
-    payload: &Bytes,
-) -> Result<(PassedOn, Bytes), AllocError>
-    ensures { IfOk result (λ parts. (parts.0 ≡ passed_on list.now) × (parts.1 ≡ payload.now)) }
-{
-    let properties = PassedOn::of(alloc, list)?;
-    match payload.clone() {
-        Ok(payload) => Ok((properties, payload)),
-        Err(fault) => {
-            drop(properties);
-            Err(fault)
-        }
-    }
-}
-
-/// The parts of a publication, all of them shared but the properties.
+/// The parts of a publication to a topic, all of them shared but the properties.
 fn kept_parts(
     alloc: Global,
     sender: &Text,
-    topic: &Text,
+    topic: TopicName,
     list: &PropsRef<'_>,
     payload: &Bytes,
 ) -> Result<Parts, AllocError>
     ensures { IfOk result (λ parts. parts ≡ record {
       sender = sender.now;
-      topic = topic.now;
+      topic = topic;
       properties = passed_on list.now;
       payload = payload.now;
     }) }
 {
-    let (properties, payload) = contents(alloc, list, payload)?;
-    match texts(sender, topic) {
-        Ok((sender, topic)) => Ok(Parts {
-            sender,
-            topic,
-            properties,
-            payload,
-        }),
-        Err(fault) => {
-            drop(properties);
-            drop(payload);
-            Err(fault)
-        }
-    }
+    Ok(Parts {
+        sender: sender.clone()?,
+        topic,
+        properties: PassedOn::of(alloc, list)?,
+        payload: payload.clone()?,
+    })
 }
 
 /// A publication of these parts.
@@ -136,20 +108,23 @@ impl Message {
     ) -> Result<Message, AllocError>
         ensures { IfOk result (λ message. message ≡ message_of client.now topic.now publish.now) }
     {
+        let topic = topic.try_clone().map_err(|_| AllocError)?;
         let list = publish.properties.lend();
         let qos = publish.delivery.qos();
-        match kept_parts(alloc, client, topic.text(), &list, &publish.payload) {
+        match kept_parts(alloc, client, topic, &list, &publish.payload) {
             Ok(parts) => Ok(made(parts, qos, publish.retain)),
             Err(fault) => Err(fault),
         }
     }
 
-    /// What a client's Will publishes (3.1.2.5).
+    /// What a client's Will, which has a topic name, publishes (3.1.2.5).
     pub fn of_will(alloc: Global, client: &Text, will: &Will) -> Result<Message, AllocError>
+        requires { IsTopicName will.now.topic }
         ensures { IfOk result (λ message. message ≡ will_message client.now will.now) }
     {
+        let topic = topic_of(will)?;
         let list = will.properties.lend();
-        match kept_parts(alloc, client, &will.topic, &list, &will.payload) {
+        match kept_parts(alloc, client, topic, &list, &will.payload) {
             Ok(parts) => Ok(made(parts, will.qos, will.retain)),
             Err(fault) => Err(fault),
         }
@@ -163,7 +138,7 @@ impl Message {
     }
 
     /// Its topic. Takes no memory.
-    pub fn topic(&self) -> &Text
+    pub fn topic(&self) -> &TopicName
         ensures { result.now ≡ self.now.topic }
     {
         &self.topic
@@ -196,7 +171,7 @@ impl Message {
             ≡ record { topic = self.now.topic; properties = self.now.properties; payload = self.now.payload; arrived = arrived }) }
     {
         Ok(Content {
-            topic: self.topic.clone()?,
+            topic: self.topic.text().clone()?,
             properties: self.properties.clone()?,
             payload: self.payload.clone()?,
             arrived,

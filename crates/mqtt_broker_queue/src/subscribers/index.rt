@@ -1,7 +1,6 @@
 //! The index of subscriptions, and how it routes a publication (MQTT 5.0, 3.3.4, 3.8, 4.8).
 ghost use Rattle.std.specs.Prelude.{◌≡◌, [], List, true, OnOk, IfOk, IfErr};
 ghost use Rattle.mqtt_base.specs.Service.{qos_number};
-ghost use Rattle.mqtt_topic.specs.names.Names.{IsTopicName};
 ghost use Rattle.mqtt_records.specs.state.Session.{birth_of};
 ghost use Rattle.mqtt_records.specs.lists.Order.{IsAscending};
 ghost use Rattle.mqtt_routes.specs.routing.Subscriptions.{Subscriber, AreInOrder, filters_of, have_room, with_some, without_session};
@@ -17,7 +16,6 @@ use crate::subscribers::look::Look;
 use mqtt_base::Qos;
 use mqtt_broker_step::{Step, StepFault};
 use mqtt_routes::{Routed, Routes, RoutesFault, Subscription};
-use mqtt_topic::TopicName;
 use std::alloc::Global;
 use std::hash::RandomState;
 use std::marker::Model;
@@ -62,19 +60,6 @@ fn sender_of(message: &Message) -> &str
     ensures { result.now ≡ message.now.sender }
 {
     message.sender().as_str()
-}
-
-/// The topic of a message.
-fn name_of(message: &Message) -> Result<TopicName, StepFault>
-    requires { IsTopicName message.now.topic }
-    ensures name { IfOk result (λ name. name ≡ message.now.topic) }
-    ensures fault { IfErr result (λ fault. fault ≡ StepFault.Memory) }
-{
-    let text = message.topic().clone()?;
-    match TopicName::from_text(text) {
-        Ok(name) => Ok(name),
-        Err(_) => unreachable!(),
-    }
 }
 
 /// Whether a message that is to be retained finds a place (ours).
@@ -127,17 +112,12 @@ impl Index {
     }
 
     /// Where a publication goes; nowhere if a queue that it needs has no room.
-    fn find(
-        &self,
-        step: &Step,
-        message: &Message,
-        name: &TopicName,
-    ) -> Result<Option<Routed>, StepFault>
-        requires { name.now ≡ message.now.topic }
+    fn find(&self, step: &Step, message: &Message) -> Result<Option<Routed>, StepFault>
         ensures found { IfOk result (IsFound message.now step.now self.now.sessions) }
         ensures fault { IfErr result (λ fault. fault ≡ StepFault.Memory) }
     {
         let sender = sender_of(message);
+        let name = message.topic();
         let qos = number_of(message.qos());
         let retain = message.retain();
         match self.routes.route(sender, name, qos, retain, &Look { step }) {
@@ -145,18 +125,6 @@ impl Index {
             Err(RoutesFault::Full) => Ok(None),
             Err(RoutesFault::Memory) => Err(StepFault::Memory),
         }
-    }
-
-    /// The same by the message's own topic.
-    fn look(&self, step: &Step, message: &Message) -> Result<Option<Routed>, StepFault>
-        requires { IsTopicName message.now.topic }
-        ensures found { IfOk result (IsFound message.now step.now self.now.sessions) }
-        ensures fault { IfErr result (λ fault. fault ≡ StepFault.Memory) }
-    {
-        let name = name_of(message)?;
-        let found = self.find(step, message, &name);
-        drop(name);
-        found
     }
 
     /// Notes the members that a publication chose, until the step is stored or taken back.
@@ -295,7 +263,7 @@ impl Router for Index {
         if !finds_place(step, message) {
             return Ok(Routing::Refused);
         }
-        match self.look(step, message) {
+        match self.find(step, message) {
             Ok(Some(routed)) => self.take(alloc, step, message, routed),
             Ok(None) => Ok(Routing::Refused),
             Err(fault) => Err(fault),
