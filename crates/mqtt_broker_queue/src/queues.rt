@@ -14,12 +14,12 @@ mod rooms;
 mod turning;
 mod turns;
 
-pub use self::ahead::sent_places;
+pub use self::ahead::{places_in, turns_at};
 pub use self::answering::{Answered, puback, pubcomp, pubrec};
 pub use self::entering::enter;
 pub use self::lapsing::expire;
 pub use self::outgoing::offer_publish;
-pub use self::pumping::pump;
+pub use self::pumping::send_turns;
 pub use self::repeats::repeats_of;
 pub use self::rooms::room;
 pub use self::turning::turn;

@@ -17,7 +17,6 @@ use Rattle.mqtt_rules.specs.step.State.{Line, Broker, session_at, line_at, queue
 use Rattle.mqtt_rules.specs.step.Step.{on_pump}
 use Rattle.mqtt_rules.specs.step.Tick.{lapse_deeds}
 use Rattle.mqtt_rules.proofs.step_lemmas.fit.Turns.{Rises}
-use Rattle.mqtt_broker_step.specs.Undoing.{with_moment_of}
 use Rattle.mqtt_broker_queue.specs.queues.Turning.{takes_turns, pumps, lapses_of}
 
 some_is : {X : Type 0} (x y : X) → Some x ≡ Some y → x ≡ y
@@ -85,10 +84,6 @@ pumps_is line birth ts l x b there number connected found is =
     ∙ (sym (ap (λ (o : Option Session). with_session o (λ s. always (pump_deeds l b s)) b) found)
     ∙ (ap (λ (o : Option ℕ). on_pump l o b) (sym connected)
     ∙ ap (λ (o : Option Line). with_line o (λ k. on_pump k k.session) b) (sym there)))))
-
--- a pump at the step's own moment
-pub now_turns : (l : Line) (x : Session) (b : Broker) (now : ℕ) (ts : List Turn) → ts ≡ pump_turns l (with_moment_of now b) x → now ≡ b.now → ts ≡ pump_turns l b x
-now_turns l x b now ts is same = is ∙ ap (λ (n : ℕ). pump_turns l (with_moment_of n b) x) same
 
 -- turns that were found to be those of a session's expired copies are the rules'
 pub lapses_is : (line birth : ℕ) (ts : List Turn) (x : Session) (b : Broker) → session_at birth b.records ≡ Some x → ts ≡ expired b.now (queue_on [] x)

@@ -4,9 +4,10 @@ use Rattle.mqtt_flow.specs.declared.outbound.entry.Turn.{Turn}
 use Rattle.mqtt_flow.specs.declared.outbound.entry.Turn.TheVariants.{Send, Resend, Release, Outgrow, Repeat, Unknown, Leave}
 use Rattle.mqtt_rules.specs.step.Deeds.{Act, always, of_session, with_line}
 use Rattle.mqtt_rules.specs.step.Outbound.{turn_deeds, all_turn_deeds}
-use Rattle.mqtt_rules.specs.step.State.{line_at}
+use Rattle.mqtt_rules.specs.step.State.{Broker, line_at}
 use Rattle.mqtt_rules.specs.step.Step.{on_pump}
 use Rattle.mqtt_rules.specs.step.Tick.{lapse_deeds}
+use Rattle.mqtt_rules.specs.filling.Pumped.{served_on, turns_on_line}
 
 -- a turn of the session that is connected on a line, if it stands
 abbrev pub takes_turn : ℕ → ℕ → Turn → Act
@@ -25,6 +26,10 @@ is_sending (Outgrow place id order) = false
 is_sending (Repeat id) = false
 is_sending (Unknown id) = false
 is_sending (Leave place ending) = false
+
+-- the turns of a pump on a line, if a session is connected on it (4.6, 4.9)
+abbrev pub line_turns : ℕ → Broker → List Turn
+line_turns line b = turns_on_line (line_at line b) b (served_on line b)
 
 -- a turn of sending on a line, if a session is connected on it (4.6, 4.9)
 abbrev pub pumps : ℕ → Act
