@@ -1,17 +1,34 @@
 //! The turn of one connection (MQTT 5.0, 4.2).
-ghost use Rattle.std.specs.Prelude.{◌≡◌, ◌≢◌, ◌≤◌, ◌<◌, length, take, OnOk, IfOk, IfErr};
+ghost use Rattle.std.specs.Prelude.{◌≡◌, ◌≢◌, ◌≤◌, ◌<◌, length, take, OnOk, IfOk, IfErr, IsTrue};
 ghost use Rattle.mqtt_serve.specs.turns.Breaks.{BreaksLine};
-ghost use Rattle.mqtt_serve.specs.turns.Turns.{server, ReadsAt, WritesAt, ServesLine};
+ghost use Rattle.mqtt_serve.specs.turns.Turns.{server, MayRest, ReadsAt, WritesAt, ServesLine};
 
 use crate::journal::Journal;
 use crate::turns::asking::{number_at, pump_at, report_at};
 use crate::turns::connection::Connection;
 use crate::turns::giving::give_at;
-use crate::turns::turn::READ_LIMIT;
+use crate::turns::turn::{Pace, READ_LIMIT};
 use mqtt_broker::Engine;
 use mqtt_broker_step::EngineError;
 use mqtt_keep::Keep;
 use mqtt_link::Link;
+
+/// Whether the connection at a place is passed over.
+pub(crate) fn is_passed_over<L: Link>(
+    link: &L,
+    lines: &[Connection<L>],
+    place: usize,
+    pace: Pace,
+) -> bool
+    requires place { place < length lines.now }
+    ensures brisk { IsTrue result → pace ≡ Pace.Brisk }
+    ensures rests { IsTrue result → MayRest place lines.now }
+{
+    match pace {
+        Pace::Full => false,
+        Pace::Brisk => lines[place].may_rest(link),
+    }
+}
 
 /// The connection at a place is read once: how many bytes came.
 fn read_at<L: Link>(
