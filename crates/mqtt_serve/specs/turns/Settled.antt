@@ -58,8 +58,8 @@ pub record ServedTurn {K : Type 0} (g : Ghosts K) (pace : Pace) (now : ℕ) (bus
   pub serves : ServesAll g pace now moved accepted (server new.engine new.links.wires)
   pub busy_is : busy ≡ (came || moved)
 
--- one turn after the other, each at the greatest moment that was read, and each behind one that was busy; one at the moment of the
--- turn before it is brisk. Whether the last was busy
+-- one turn after the other, each at the greatest moment that was read, and each behind one that was busy; the first in each span
+-- of FULL_TURN_EVERY milliseconds is full. Whether the last was busy
 pub data Together {K : Type 0} (g : Ghosts K) (begin : ℕ) : List ℕ → ℕ → Bool → Hosting (Serving K) → Hosting (Serving K) → Type 0 where
   not_begun : {h : Hosting (Serving K)} → Together g begin [] begin true h h
   turn_more : {read : List ℕ} {last : ℕ} (now : ℕ) {busy : Bool} {h i j : Hosting (Serving K)} → Together g begin read last true h i

@@ -1,5 +1,5 @@
 -- A turn of the server: what is asked of the broker, in order, and what its answers make of the connections (MQTT 5.0, 4.2).
-use Rattle.std.specs.Prelude.{◌≡◌, ◌⊎◌, ℕ, ◌+◌, ◌<◌, ◌≤◌, max, nat_eq, nat_lt, Bool, true, false, not, ◌||◌, List, [], ◌∷◌, ◌++◌, length, drop, filter, slice_get, Option, Some, None, option_map, Result, Ok, Err}
+use Rattle.std.specs.Prelude.{◌≡◌, ◌⊎◌, ℕ, ◌+◌, ◌/◌, ◌<◌, ◌≤◌, max, nat_eq, nat_lt, cond, Bool, true, false, not, ◌||◌, List, [], ◌∷◌, ◌++◌, length, drop, filter, slice_get, Option, Some, None, option_map, Result, Ok, Err}
 use Rattle.mqtt_base.specs.declared.limits.TheConstants.{LINE_LIMIT}
 use Rattle.mqtt_link.specs.Links.{Calls, and_then, asked, waited}
 use Rattle.mqtt_keep.specs.declared.keeping.keep.Keep.{Ghosts}
@@ -15,7 +15,7 @@ use Rattle.mqtt_broker_step.specs.Doing.{next_line}
 use Rattle.mqtt_broker.specs.engine.Piece.{PieceCalled}
 use Rattle.mqtt_broker.specs.engine.Serving.{Serving, Served, with_linked}
 use Rattle.mqtt_serve.specs.declared.turns.giving.TheConstants.{PIECE_LIMIT}
-use Rattle.mqtt_serve.specs.declared.turns.turn.TheConstants.{READ_LIMIT, TICK_LIMIT}
+use Rattle.mqtt_serve.specs.declared.turns.turn.TheConstants.{FULL_TURN_EVERY, READ_LIMIT, TICK_LIMIT}
 use Rattle.mqtt_serve.specs.declared.turns.turn.Pace.{Pace}
 use Rattle.mqtt_serve.specs.declared.turns.turn.Pace.TheVariants.{Full, Brisk}
 use Rattle.mqtt_serve.specs.turns.Related.{Related, RelatedAt}
@@ -255,9 +255,9 @@ Accepts g now true old new = IsLinked now old new ⊎ (IsFull now old new ⊎ Is
 
 -- ---- a turn
 
--- a turn is full, and each connection has it, unless it comes at the moment of the turn before it
+-- the first turn in each span of FULL_TURN_EVERY milliseconds is full; turns behind it are brisk
 abbrev pub pace_of : ℕ → ℕ → Pace
-pace_of last now = if nat_eq now last then Brisk else Full
+pace_of last now = cond (nat_eq (now / FULL_TURN_EVERY) (last / FULL_TURN_EVERY)) Brisk Full
 
 -- each connection has its turn, unless it is passed over, then the clock; what waits on connections that the broker closed is written
 -- once more

@@ -12,7 +12,7 @@ use crate::turns::accepting::accept;
 use crate::turns::connection::Connection;
 use crate::turns::holding::hold;
 use crate::turns::running::{Timer, rest};
-use crate::turns::turn::{Links, Pace, drop_closed, serve_all};
+use crate::turns::turn::{FULL_TURN_EVERY, Links, Pace, drop_closed, serve_all};
 use mqtt_broker::Engine;
 use mqtt_broker_step::EngineError;
 use mqtt_keep::Settles;
@@ -89,11 +89,16 @@ fn store_turn<L: Link + Drop, K: Settles>(
 fn pace_of(last: u64, now: u64) -> Pace
     ensures { result ≡ pace_of last now }
 {
-    if now == last { Pace::Brisk } else { Pace::Full }
+    if now / FULL_TURN_EVERY == last / FULL_TURN_EVERY {
+        Pace::Brisk
+    } else {
+        Pace::Full
+    }
 }
 
 /// A turn whose steps are not stored yet: that of `serve_turn` over a link that holds back what is written, but that connections
-/// that the broker closed aren't dropped, and that a brisk one passes connections over. Whether a connection or bytes came or went. `Stopped` (2) and `Spent` (3) are the engine's.
+/// that the broker closed aren't dropped, and that a brisk one passes connections over. Whether a connection or bytes came or
+/// went. `Stopped` (2) and `Spent` (3) are the engine's.
 fn serve_unstored<L: Link + Drop, K: Settles, J: Journal>(
     links: &mut Links<HeldBack<L>>,
     engine: &mut Engine<K>,
@@ -155,8 +160,8 @@ fn goes_on<L: Link + Drop>(links: &Links<HeldBack<L>>, busy: bool, before: u32) 
         && (before == 0 || links.lines.iter().any(|line| line.has_more()))
 }
 
-/// At least one turn, and at most so many, none of which is stored yet, each at the greatest moment that the clock has told. One at
-/// the moment of the turn before it is brisk: so each connection has its turn once in each millisecond that has one.
+/// At least one turn, and at most so many, none of which is stored yet, each at the greatest moment that the clock has told. The
+/// first in each span of 16 milliseconds is full: so no connection is passed over for longer.
 fn serve_together<L: Link + Drop, K: Settles, T: Timer, J: Journal>(
     links: &mut Links<HeldBack<L>>,
     engine: &mut Engine<K>,

@@ -26,6 +26,9 @@ pub const READ_LIMIT: usize = 4_096;
 /// The most turns of the clock in a turn (ours).
 pub const TICK_LIMIT: usize = 16;
 
+/// How many milliseconds turns may be brisk behind a full one (ours).
+pub const FULL_TURN_EVERY: u64 = 16;
+
 /// Which connections have their turn.
 #[derive(Clone, Copy, Debug, PartialEq, Eq)]
 pub enum Pace {
