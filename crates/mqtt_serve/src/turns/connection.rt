@@ -29,6 +29,8 @@ pub struct Connection<L: Link> {
     is_clear: bool,
     /// Whether the last read filled its buffer.
     has_more: bool,
+    /// Whether bytes came or went on it in its last turn.
+    has_moved: bool,
     /// Whether the broker may have something to send on it.
     pub(crate) is_stirred: bool,
     /// The birth of the session that is connected on its line, once it is known.
@@ -108,6 +110,7 @@ impl<L: Link> Connection<L> {
             waiting: Waiting::new(alloc),
             is_clear: false,
             has_more: false,
+            has_moved: false,
             is_stirred: true,
             birth: None,
             fate: Fate::Stands,
@@ -166,13 +169,20 @@ impl<L: Link> Connection<L> {
         self.may_send() && (self.is_stirred || !self.waiting.is_empty())
     }
 
-    /// Whether it may be passed over: it stands and nothing waits on it, the broker has nothing to send on it, and the link tells
-    /// that nothing has come.
-    pub fn may_rest(&self, link: &L) -> bool
-        ensures sends { IsTrue result → may_send self.now ≡ true }
-        ensures clear { IsTrue result → self.now.waits ≡ [] }
+    /// It is passed over if it may be: it stands and nothing waits on it, the broker has nothing to send on it, and the link tells
+    /// that nothing has come. Whether it is.
+    pub fn rest(&mut self, link: &L) -> bool
+        ensures sends { IsTrue result → may_send self.old ≡ true }
+        ensures clear { IsTrue result → self.old.waits ≡ [] }
+        ensures same { self.new ≡ self.old }
     {
+        self.has_moved = false;
         self.may_send() && self.waiting.is_empty() && !self.is_stirred && !link.may_give(&self.peer)
+    }
+
+    /// Whether bytes came or went on it in its last turn.
+    pub fn has_moved(&self) -> bool {
+        self.has_moved
     }
 
     /// Whether what waits on it can wait on: its line isn't closed, and at most half of what may wait does.
@@ -203,6 +213,7 @@ impl<L: Link> Connection<L> {
             }
         };
         self.has_more = count == buffer.len();
+        self.has_moved = count > 0;
         count
     }
 
@@ -222,7 +233,9 @@ impl<L: Link> Connection<L> {
         if before > 0 {
             self.is_clear = self.waiting.is_empty();
         }
-        self.waiting.len() < before
+        let wrote = self.waiting.len() < before;
+        self.has_moved |= wrote;
+        wrote
     }
 
     /// Writes once more what waits, if the broker has closed its line.

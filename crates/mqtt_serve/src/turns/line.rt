@@ -13,20 +13,21 @@ use mqtt_broker_step::EngineError;
 use mqtt_keep::Keep;
 use mqtt_link::Link;
 
-/// Whether the connection at a place is passed over.
-pub(crate) fn is_passed_over<L: Link>(
+/// The connection at a place is passed over, if it may be. Whether it is.
+pub(crate) fn pass_over<L: Link>(
     link: &L,
-    lines: &[Connection<L>],
+    lines: &mut [Connection<L>],
     place: usize,
     pace: Pace,
 ) -> bool
-    requires place { place < length lines.now }
+    requires place { place < length lines.old }
     ensures brisk { IsTrue result → pace ≡ Pace.Brisk }
-    ensures rests { IsTrue result → MayRest place lines.now }
+    ensures rests { IsTrue result → MayRest place lines.old }
+    ensures same { lines.new ≡ lines.old }
 {
     match pace {
         Pace::Full => false,
-        Pace::Brisk => lines[place].may_rest(link),
+        Pace::Brisk => lines[place].rest(link),
     }
 }
 

@@ -151,13 +151,25 @@ fn store_all<L: Link + Drop, K: Settles>(
 }
 
 /// Whether the next turn comes before what was done is stored. Never after a turn in which nothing came or went, nor while a
-/// connection that the broker closed is to be dropped, or one has little room left. After the first turn else; after later ones
-/// if a read filled its buffer, so that more is at hand.
-fn goes_on<L: Link + Drop>(links: &Links<HeldBack<L>>, busy: bool, before: u32) -> bool
+/// connection that the broker closed is to be dropped, or one has little room left. After the first turn else, if something came
+/// or went on two connections, or something is to be sent on one; and after any if a read filled its buffer, so that more is at
+/// hand.
+fn goes_on<L: Link + Drop>(links: &Links<L>, busy: bool, before: u32) -> bool
     ensures { IsTrue result → busy ≡ true }
 {
-    busy && links.lines.iter().all(|line| line.can_wait())
-        && (before == 0 || links.lines.iter().any(|line| line.has_more()))
+    if !busy {
+        return false;
+    }
+    let (mut one, mut two, mut more) = (false, false, false);
+    for line in links.lines.iter() {
+        if !line.can_wait() {
+            return false;
+        }
+        two |= one && line.has_moved();
+        one |= line.has_moved();
+        more |= line.has_more() || (before == 0 && line.has_new());
+    }
+    more || (before == 0 && two)
 }
 
 /// At least one turn, and at most so many, none of which is stored yet, each at the greatest moment that the clock has told. The

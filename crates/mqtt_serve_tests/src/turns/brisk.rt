@@ -13,11 +13,7 @@ const IDLE: &[Stage] = &[(0, b"\x10\x0e\x00\x04MQTT\x05\x02\x00\x00\x00\x00\x01i
 
 /// How often the idle client was read once it was connected, after each of: twenty stretches at one moment; one a millisecond
 /// later; one in the next span of 16 milliseconds.
-fn reads_of_idle(
-    links: &mut Held,
-    alloc: Global,
-    hasher: RandomState,
-) -> Result<[u64; 3], Fail> {
+fn reads_of_idle(links: &mut Held, alloc: Global, hasher: RandomState) -> Result<[u64; 3], Fail> {
     let Ok(mut engine) = Engine::open(alloc, MemKeep::new(alloc)?, 0, LIMITS, hasher) else {
         return Err(Fail::from("the broker can't be opened"));
     };
