@@ -14,7 +14,7 @@ use Rattle.mqtt_serve.specs.declared.turns.turn.Pace.TheVariants.{Full}
 use Rattle.mqtt_serve.specs.turns.Leaving.{AreCalls, IsCalled, call_after, line_linked, no_call, piece_came, was_asked, was_told}
 use Rattle.mqtt_serve.specs.turns.Said.{AreSaid, IsSaid, IsSaidTo, outputs_in, outputs_of, outputs_of_call}
 use Rattle.mqtt_serve.specs.turns.Settled.{IsStoredOrPutOff, LetsGoBelow, RunsSettledUntil, ServedTurn, Stretch, Stretches, Together, no_stretch, none_yet, not_begun, one_after, stretch_after, turn_more}
-use Rattle.mqtt_serve.specs.turns.Turns.{Accepts, Gives, GivenSoFar, GivesIf, HasTurn, Hosting, IsPieced, IsTicked, LosesIf, PumpsIf, Server, ServesAll, ServesBelow, ServesLine, Tells, TickedSoFar, Ticks, TicksBy, TurnsBy, all_given, enough_ticks, given_up, last_tick, line_after, no_line, no_tick, no_turn, nothing_yet, pace_of, passed_over, passed_over, piece_after, rested, server, tick_after, turn_after, without_closed}
+use Rattle.mqtt_serve.specs.turns.Turns.{Accepts, GivenSoFar, Gives, GivesIf, HasItsTurn, HasTurn, Hosting, IsPieced, IsTicked, LosesIf, PumpsIf, Server, ServesAll, ServesBelow, ServesLine, Tells, TickedSoFar, Ticks, TicksBy, TurnsBy, all_given, enough_ticks, given_up, it_is_passed_over, it_is_served, last_tick, line_after, no_line, no_tick, no_turn, nothing_yet, pace_of, piece_after, rested, server, tick_after, turn_after, without_closed}
 use Rattle.mqtt_serve.specs.turns.Wires.{Wire, AreLost, LetsGo, Reaches, Reads, WritesAnd, WritesLast, is_standing, letting, lost_if}
 use Rattle.mqtt_serve.proofs.turns_lemmas.Said.{Outputs, all_said_then, at_said, closing_said, dropped_said, hears_said, last_said, leaves_said, losing_said, reads_said, related_said, said_then, silent, still_said, writes_said}
 use Rattle.mqtt_serve.proofs.turns_lemmas.Since.{broken_held}
@@ -134,11 +134,14 @@ module _ {K : Type 0} (g : Ghosts K) where
       (quiet_says h.sent wrote refl (at_said (WritesAnd h.wrote) (λ x y w. writes_said x.fate x y w.writes) place h.sent.wires h.written h.writes))
       (loses_if now h.number _ wrote b h.loses))))
 
+  turn_had : (pace : Pace) (now place : ℕ) (moved : Bool) (a b : Server (Serving K)) → HasItsTurn g pace now place moved a b → Says a b
+  turn_had pace now place moved a b (it_is_served line) = line_served now place moved a b line
+  turn_had pace now place moved a b (it_is_passed_over brisk rests) = says_still a
+
   lines_served : (pace : Pace) (now limit : ℕ) (some : Bool) (a b : Server (Serving K)) → ServesBelow g pace now limit some a b → Says a b
   lines_served pace now limit some a b no_line = says_still a
   lines_served pace now limit some a b (line_after {place} {busy} {moved} {t} before line) =
-      says_then a t b (lines_served pace now place busy a t before) (line_served now place moved t b line)
-  lines_served pace now limit some a b (passed_over {place} before brisk rests) = lines_served pace now place some a b before
+      says_then a t b (lines_served pace now place busy a t before) (turn_had pace now place moved t b line)
 
   ticked : (now : ℕ) (again : Bool) (a b : Server (Serving K)) → IsTicked g now again a b → Says a b
   ticked now again a b h = one_says a b (was_asked now _ h.answer h.called) (ticks_said h.answer a.wires b.wires h.told)

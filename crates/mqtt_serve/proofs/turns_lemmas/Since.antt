@@ -13,7 +13,7 @@ use Rattle.mqtt_serve.specs.declared.turns.turn.Pace.{Pace}
 use Rattle.mqtt_serve.specs.turns.Breaks.{BreaksAll, BreaksLine}
 use Rattle.mqtt_serve.specs.turns.Leaving.{AreCalls, HoldsBack, IsAllStored, IsCalled, IsHeldSince, IsLeftByCall, IsLeftSince, NothingLeaves, WasSaid, call_after, gone, line_linked, no_call, piece_came, was_asked, was_told}
 use Rattle.mqtt_serve.specs.turns.Settled.{IsStored, IsStoredOrPutOff, LetsGoBelow, ServedTurn, Stretch, StretchBreaksOff, Stretches, Together, no_stretch, none_yet, not_begun, one_after, stretch_after, turn_more}
-use Rattle.mqtt_serve.specs.turns.Turns.{Accepts, Gives, GivenSoFar, GivesIf, Hosting, IsPieced, IsTicked, LosesIf, PumpsIf, Server, ServesAll, ServesBelow, ServesLine, Tells, TickedSoFar, Ticks, TicksBy, all_given, enough_ticks, given_up, last_tick, line_after, no_line, no_tick, nothing_yet, pace_of, passed_over, passed_over, piece_after, rested, server, tick_after}
+use Rattle.mqtt_serve.specs.turns.Turns.{Accepts, GivenSoFar, Gives, GivesIf, HasItsTurn, Hosting, IsPieced, IsTicked, LosesIf, PumpsIf, Server, ServesAll, ServesBelow, ServesLine, Tells, TickedSoFar, Ticks, TicksBy, all_given, enough_ticks, given_up, it_is_passed_over, it_is_served, last_tick, line_after, no_line, no_tick, nothing_yet, pace_of, piece_after, rested, server, tick_after}
 use Rattle.mqtt_serve.specs.turns.Wires.{Wire}
 use Rattle.mqtt_serve.proofs.turns_lemmas.Silent.{let_go_said, silent_last, silent_lost, silent_read, silent_reached, silent_still, silent_then, silent_written}
 
@@ -89,11 +89,14 @@ module _ {K : Type 0} (g : Ghosts K) where
       (holds_then h.sent wrote b (holds_quiet h.sent wrote refl (silent_written place h.wrote h.sent.wires h.written h.writes))
       (loses_if now h.number _ wrote b h.loses))))
 
+  turn_had : (pace : Pace) (now place : ℕ) (moved : Bool) (a b : Server (Serving K)) → HasItsTurn g pace now place moved a b → HoldsBack g a b
+  turn_had pace now place moved a b (it_is_served line) = line_served now place moved a b line
+  turn_had pace now place moved a b (it_is_passed_over brisk rests) = holds_still a
+
   lines_served : (pace : Pace) (now limit : ℕ) (some : Bool) (a b : Server (Serving K)) → ServesBelow g pace now limit some a b → HoldsBack g a b
   lines_served pace now limit some a b no_line = holds_still a
   lines_served pace now limit some a b (line_after {place} {busy} {moved} {t} before line) =
-      holds_then a t b (lines_served pace now place busy a t before) (line_served now place moved t b line)
-  lines_served pace now limit some a b (passed_over {place} before brisk rests) = lines_served pace now place some a b before
+      holds_then a t b (lines_served pace now place busy a t before) (turn_had pace now place moved t b line)
 
   tick_silent : (answer : Result Outcome EngineError) (old new : List Wire) → TicksBy answer old new → NothingLeaves old new
   tick_silent (Ok out) old new told = silent_reached out.outputs.items out.closed.items old new told

@@ -185,14 +185,16 @@ pub record MayRest (place : ℕ) (wires : List Wire) : Type 0 where
   pub may_send : may_send_at place wires ≡ true
   pub nothing_waits : option_map (λ w. w.waits) (slice_get wires place) ≡ Some []
 
--- each connection below a place has its turn, in order; but in a brisk turn one may be passed over on which nothing waits. Whether
--- bytes came or went
+-- it has its turn; or it is passed over, in a brisk turn of the server, if nothing waits on it
+pub data HasItsTurn {K : Type 0} (g : Ghosts K) (pace : Pace) (now place : ℕ) : Bool → Server (Serving K) → Server (Serving K) → Type 0 where
+  it_is_served : {moved : Bool} {s t : Server (Serving K)} → ServesLine g now place moved s t → HasItsTurn g pace now place moved s t
+  it_is_passed_over : {s : Server (Serving K)} → pace ≡ Brisk → MayRest place s.wires → HasItsTurn g pace now place false s s
+
+-- so each connection below a place, in order. Whether bytes came or went
 pub data ServesBelow {K : Type 0} (g : Ghosts K) (pace : Pace) (now : ℕ) : ℕ → Bool → Server (Serving K) → Server (Serving K) → Type 0 where
   no_line : {s : Server (Serving K)} → ServesBelow g pace now 0 false s s
   line_after : {place : ℕ} {busy moved : Bool} {s t u : Server (Serving K)} → ServesBelow g pace now place busy s t
-      → ServesLine g now place moved t u → ServesBelow g pace now (place + 1) (busy || moved) s u
-  passed_over : {place : ℕ} {busy : Bool} {s t : Server (Serving K)} → ServesBelow g pace now place busy s t → pace ≡ Brisk
-      → MayRest place t.wires → ServesBelow g pace now (place + 1) busy s t
+      → HasItsTurn g pace now place moved t u → ServesBelow g pace now (place + 1) (busy || moved) s u
 
 -- ---- turns of the clock
 

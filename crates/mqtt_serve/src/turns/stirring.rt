@@ -52,12 +52,37 @@ impl<L: Link> Connection<L> {
     }
 }
 
-/// So for each connection.
-fn stir_each<L: Link, K: Keep>(lines: &mut [Connection<L>], engine: &Engine<K>, reports: &[Report])
+/// The broker may have something to send on the connection at a place, or has not.
+fn stir_at<L: Link>(lines: &mut [Connection<L>], place: usize, is_stirred: bool)
+    requires place { place < length lines.old }
     ensures same { lines.new ≡ lines.old }
 {
-    for line in lines.iter_mut() {
-        line.stir_if(engine, reports);
+    lines[place].stir(is_stirred);
+}
+
+/// The connection at a place is stirred if a copy entered its session's queue.
+fn stir_if_at<L: Link, K: Keep>(
+    lines: &mut [Connection<L>],
+    place: usize,
+    engine: &Engine<K>,
+    reports: &[Report],
+)
+    requires place { place < length lines.old }
+    ensures same { lines.new ≡ lines.old }
+{
+    lines[place].stir_if(engine, reports);
+}
+
+/// Each connection is stirred to whose session's queue a copy came.
+fn stir_each<L: Link, K: Keep>(
+    lines: &mut [Connection<L>],
+    engine: &Engine<K>,
+    reports: &[Report],
+)
+    ensures same { lines.new ≡ lines.old }
+{
+    for place in 0..lines.len() {
+        stir_if_at(lines, place, engine, reports);
     }
 }
 
@@ -65,8 +90,8 @@ fn stir_each<L: Link, K: Keep>(lines: &mut [Connection<L>], engine: &Engine<K>, 
 fn stir_all<L: Link>(lines: &mut [Connection<L>])
     ensures same { lines.new ≡ lines.old }
 {
-    for line in lines.iter_mut() {
-        line.stir(true);
+    for place in 0..lines.len() {
+        stir_at(lines, place, true);
     }
 }
 
@@ -101,5 +126,5 @@ pub(crate) fn calm_by<L: Link>(
         Ok(out) => out.again,
         Err(_) => true,
     };
-    lines[place].stir(more);
+    stir_at(lines, place, more);
 }

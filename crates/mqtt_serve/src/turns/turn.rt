@@ -11,7 +11,7 @@ use crate::journal::{Journal, Quiet};
 use crate::turns::accepting::accept;
 use crate::turns::asking::tick;
 use crate::turns::connection::Connection;
-use crate::turns::line::{pass_over, serve_line};
+use crate::turns::line::serve_at;
 use mqtt_base::LINE_LIMIT;
 use mqtt_broker::Engine;
 use mqtt_broker_step::EngineError;
@@ -118,9 +118,7 @@ fn serve_lines<L: Link, K: Keep, J: Journal>(
     let mut buffer = [0_u8; READ_LIMIT];
     let mut busy = false;
     for place in 0..lines.len() {
-        if !pass_over(link, lines, place, pace) {
-            busy |= serve_line(link, lines, engine, place, moment, &mut buffer, journal)?;
-        }
+        busy |= serve_at(link, lines, engine, place, pace, moment, &mut buffer, journal)?;
     }
     Ok(busy)
 }
