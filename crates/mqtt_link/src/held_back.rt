@@ -142,6 +142,10 @@ impl<L: Link + Drop> Link for HeldBack<L> {
         self.link.address(&peer.peer)
     }
 
+    fn may_give(&self, peer: &HeldPeer<L>) -> bool {
+        !peer.is_unread && self.link.may_give(&peer.peer)
+    }
+
     fn wait(&mut self) {
         self.link.wait();
     }

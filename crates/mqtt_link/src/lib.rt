@@ -4,6 +4,7 @@
 mod commit;
 mod held_back;
 mod link;
+mod poll_link;
 mod serve_fault;
 mod sockets;
 mod waiting;
@@ -11,6 +12,7 @@ mod waiting;
 pub use commit::Commit;
 pub use held_back::{HeldBack, HeldPeer};
 pub use link::{Got, Link};
+pub use poll_link::PollLink;
 pub use serve_fault::ServeFault;
 pub use sockets::got;
 pub use waiting::{WAITING_LIMIT, Waiting, WaitingFault};

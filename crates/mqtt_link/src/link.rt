@@ -62,6 +62,11 @@ pub trait Link {
         None
     }
 
+    /// Whether a read of a connection may give something: where it may not, the link has no need to be asked.
+    fn may_give(&self, _peer: &Self::Peer) -> bool {
+        true
+    }
+
     /// Waits a little, or until a connection changes.
     fn wait(&mut self)
         ensures counted { calls self.new ≡ waited (calls self.old) };

@@ -1,7 +1,6 @@
 //! The broker over a database on disk and a listening socket, in turns and one thread (MQTT 5.0, 4.2).
 
 mod clock;
-mod poll_link;
 mod serving;
 mod store;
 

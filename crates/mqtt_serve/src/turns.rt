@@ -11,6 +11,7 @@ mod laws;
 mod line;
 mod running;
 mod settling;
+mod stirring;
 mod telling;
 mod turn;
 

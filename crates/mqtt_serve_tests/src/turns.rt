@@ -1,6 +1,7 @@
 //! Tests of `mqtt_serve::turns` over its public calls: turns over clients in memory and at sockets (MQTT 5.0, 4.2).
 
 mod apart;
+mod brisk;
 mod clients;
 mod course;
 mod cuts;

@@ -1,14 +1,14 @@
 -- What a command line asks a broker to hold.
 use Rattle.std.proofs.Common.{◌≡◌, ◌≤◌, ℕ, refl, sym, List, Option, None, Some, codes, subst, arith}
 use Rattle.clap.specs.Words.{Row, Text}
-use Rattle.mqtt_cli.specs.command.Limits.{AreLinesGiven, AskForCapacity, AsksForCapacity, AsksForLimits, IsSizeGiven}
+use Rattle.mqtt_cli.specs.command.Limits.{AreLinesGiven, AskForCapacity, AsksForCapacity, AsksForLimits, IsTableGiven}
 use Rattle.mqtt_cli.specs.command.Values.{value_in}
 use Rattle.mqtt_rules.specs.declared.step.Capacity.{Capacity}
 use Rattle.mqtt_rules.specs.declared.step.Limits.{Limits}
 use Rattle.mqtt_rules.specs.step.Laws.{AreWithin, sized}
 
 -- a table that is asked for is within its limit
-size_within : (most : ℕ) (value : Option Text) (size : ℕ) → IsSizeGiven most value size → size ≤ most
+size_within : (most : ℕ) (value : Option Text) (size : ℕ) → IsTableGiven most value size → size ≤ most
 size_within most None size is = omega arith
 size_within most (Some text) size is = is.within
 

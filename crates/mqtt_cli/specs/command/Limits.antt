@@ -28,22 +28,25 @@ abbrev pub IsFullGiven : Option Text → Full → Type 0
 IsFullGiven None full = full ≡ Refuse
 IsFullGiven (Some text) full = IsFull text full
 
+-- a number from 1 to the most that may be: this one, if nothing is said
+abbrev pub IsSizeGiven : ℕ → ℕ → Option Text → ℕ → Type 0
+IsSizeGiven unasked most None size = size ≡ unasked
+IsSizeGiven unasked most (Some text) size = IsSize most text size
+
 -- the size of a table: the most that it may have, if nothing is said
-abbrev pub IsSizeGiven : ℕ → Option Text → ℕ → Type 0
-IsSizeGiven most None size = size ≡ most
-IsSizeGiven most (Some text) size = IsSize most text size
+abbrev pub IsTableGiven : ℕ → Option Text → ℕ → Type 0
+IsTableGiven most value size = IsSizeGiven most most value size
 
 -- how many lines are linked at one time: 64, if nothing is said
 abbrev pub AreLinesGiven : Option Text → ℕ → Type 0
-AreLinesGiven None lines = lines ≡ LINES_UNASKED
-AreLinesGiven (Some text) lines = IsSize LINE_LIMIT text lines
+AreLinesGiven value lines = IsSizeGiven LINES_UNASKED LINE_LIMIT value lines
 
 -- these matches ask for these limits
 pub record AsksForLimits (rows : Option (List Row)) (limits : Limits) : Type 0 where
   pub full : IsFullGiven (value_in (codes "full") rows) limits.full
-  pub queue : IsSizeGiven QUEUE_LIMIT (value_in (codes "queue") rows) limits.queue
-  pub sessions : IsSizeGiven SESSION_LIMIT (value_in (codes "sessions") rows) limits.sessions
-  pub retained : IsSizeGiven RETAINED_LIMIT (value_in (codes "retained") rows) limits.retained
+  pub queue : IsTableGiven QUEUE_LIMIT (value_in (codes "queue") rows) limits.queue
+  pub sessions : IsTableGiven SESSION_LIMIT (value_in (codes "sessions") rows) limits.sessions
+  pub retained : IsTableGiven RETAINED_LIMIT (value_in (codes "retained") rows) limits.retained
 
 -- they ask for these, or for none that there are
 abbrev pub AskForLimits : Option (List Row) → Option Limits → Type 0

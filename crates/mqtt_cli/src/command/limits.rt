@@ -4,7 +4,7 @@
 ghost use Rattle.std.specs.Prelude.{◌≡◌, ℕ, IfNone, IfOk, IfSome, Some, codes, false};
 ghost use Rattle.clap.specs.Words.{app_of, found_of, rows_of, rule_of};
 ghost use Rattle.clap.specs.declared.builder.command.Command.TheViews.{out-Command as fields_of};
-ghost use Rattle.mqtt_cli.specs.command.Limits.{AreLinesGiven, AskForCapacity, AskForLimits, IsFullGiven, IsSizeGiven, choice_rule, with_capacity, with_limits};
+ghost use Rattle.mqtt_cli.specs.command.Limits.{AskForCapacity, AskForLimits, IsFullGiven, IsSizeGiven, choice_rule, with_capacity, with_limits};
 ghost use Rattle.mqtt_cli.specs.command.Values.{value_in};
 ghost use Rattle.mqtt_flow.specs.declared.outbound.entry.Full.{Full};
 
@@ -81,9 +81,12 @@ pub(crate) fn limits_in(matches: &ArgMatches<'_>) -> Option<Limits>
     ensures { AskForLimits (Some (rows_of (found_of matches.now))) result }
 {
     let full = full_in(matches)?;
-    let queue = size_in(matches, "queue", QUEUE_LIMIT as u32)?;
-    let sessions = size_in(matches, "sessions", SESSION_LIMIT as u32)?;
-    let retained = size_in(matches, "retained", RETAINED_LIMIT as u32)?;
+    let most = QUEUE_LIMIT as u32;
+    let queue = size_in(matches, "queue", most, most)?;
+    let most = SESSION_LIMIT as u32;
+    let sessions = size_in(matches, "sessions", most, most)?;
+    let most = RETAINED_LIMIT as u32;
+    let retained = size_in(matches, "retained", most, most)?;
     Some(Limits {
         full,
         queue,
@@ -97,7 +100,7 @@ pub(crate) fn capacity_in(matches: &ArgMatches<'_>) -> Option<Capacity>
     ensures { AskForCapacity (Some (rows_of (found_of matches.now))) result }
 {
     let limits = limits_in(matches)?;
-    let lines = lines_in(matches)?;
+    let lines = size_in(matches, "connections", LINES_UNASKED, LINE_LIMIT as u32)?;
     Some(limits.with_lines(lines))
 }
 
@@ -114,28 +117,15 @@ fn full_in(matches: &ArgMatches<'_>) -> Option<Full>
     }
 }
 
-/// The size of a table that the matches of a command ask for by an option, the most that it may have if that is left out.
-fn size_in(matches: &ArgMatches<'_>, name: &str, most: u32) -> Option<u32>
+/// The number from 1 to `most` that the matches of a command ask for by an option: `unasked`, if it is left out.
+fn size_in(matches: &ArgMatches<'_>, name: &str, unasked: u32, most: u32) -> Option<u32>
     ensures read { IfSome result (λ size.
-        IsSizeGiven most (value_in name.now (Some (rows_of (found_of matches.now)))) size) }
+        IsSizeGiven unasked most (value_in name.now (Some (rows_of (found_of matches.now)))) size) }
     ensures only { IfNone result ((size : ℕ)
-        → ¬ (IsSizeGiven most (value_in name.now (Some (rows_of (found_of matches.now)))) size)) }
+        → ¬ (IsSizeGiven unasked most (value_in name.now (Some (rows_of (found_of matches.now)))) size)) }
 {
     match matches.get_str(name) {
         Some(text) => size_read(text, most),
-        None => Some(most),
-    }
-}
-
-/// How many lines are linked at one time, by the matches of a command: 64, if nothing is said.
-fn lines_in(matches: &ArgMatches<'_>) -> Option<u32>
-    ensures read { IfSome result (λ lines.
-        AreLinesGiven (value_in (codes "connections") (Some (rows_of (found_of matches.now)))) lines) }
-    ensures only { IfNone result ((lines : ℕ)
-        → ¬ (AreLinesGiven (value_in (codes "connections") (Some (rows_of (found_of matches.now)))) lines)) }
-{
-    match matches.get_str("connections") {
-        Some(text) => size_read(text, LINE_LIMIT as u32),
-        None => Some(LINES_UNASKED),
+        None => Some(unasked),
     }
 }

@@ -9,10 +9,12 @@ use Rattle.mqtt_broker_step.specs.declared.call.EngineError.{EngineError}
 use Rattle.mqtt_broker_step.specs.declared.call.EngineError.TheVariants.{Memory, Stopped, Spent}
 use Rattle.mqtt_broker.specs.declared.stored.outcome.Outcome.{Outcome}
 use Rattle.mqtt_broker.specs.engine.Serving.{Serving}
+use Rattle.mqtt_serve.specs.declared.turns.turn.Pace.{Pace}
+use Rattle.mqtt_serve.specs.declared.turns.turn.Pace.TheVariants.{Full}
 use Rattle.mqtt_serve.specs.turns.Leaving.{AreCalls, IsCalled, call_after, line_linked, no_call, piece_came, was_asked, was_told}
 use Rattle.mqtt_serve.specs.turns.Said.{AreSaid, IsSaid, IsSaidTo, outputs_in, outputs_of, outputs_of_call}
 use Rattle.mqtt_serve.specs.turns.Settled.{IsStoredOrPutOff, LetsGoBelow, RunsSettledUntil, ServedTurn, Stretch, Stretches, Together, no_stretch, none_yet, not_begun, one_after, stretch_after, turn_more}
-use Rattle.mqtt_serve.specs.turns.Turns.{Accepts, Gives, GivenSoFar, GivesIf, HasTurn, Hosting, IsPieced, IsTicked, LosesIf, PumpsIf, Server, ServesAll, ServesBelow, ServesLine, Tells, TickedSoFar, Ticks, TicksBy, TurnsBy, all_given, enough_ticks, given_up, last_tick, line_after, no_line, no_tick, no_turn, nothing_yet, piece_after, rested, server, tick_after, turn_after, without_closed}
+use Rattle.mqtt_serve.specs.turns.Turns.{Accepts, GivenSoFar, Gives, GivesIf, HasItsTurn, HasTurn, Hosting, IsPieced, IsTicked, LosesIf, PumpsIf, Server, ServesAll, ServesBelow, ServesLine, Tells, TickedSoFar, Ticks, TicksBy, TurnsBy, all_given, enough_ticks, given_up, it_is_passed_over, it_is_served, last_tick, line_after, no_line, no_tick, no_turn, nothing_yet, pace_of, piece_after, rested, server, tick_after, turn_after, without_closed}
 use Rattle.mqtt_serve.specs.turns.Wires.{Wire, AreLost, LetsGo, Reaches, Reads, WritesAnd, WritesLast, is_standing, letting, lost_if}
 use Rattle.mqtt_serve.proofs.turns_lemmas.Said.{Outputs, all_said_then, at_said, closing_said, dropped_said, hears_said, last_said, leaves_said, losing_said, reads_said, related_said, said_then, silent, still_said, writes_said}
 use Rattle.mqtt_serve.proofs.turns_lemmas.Since.{broken_held}
@@ -132,10 +134,14 @@ module _ {K : Type 0} (g : Ghosts K) where
       (quiet_says h.sent wrote refl (at_said (WritesAnd h.wrote) (λ x y w. writes_said x.fate x y w.writes) place h.sent.wires h.written h.writes))
       (loses_if now h.number _ wrote b h.loses))))
 
-  lines_served : (now limit : ℕ) (some : Bool) (a b : Server (Serving K)) → ServesBelow g now limit some a b → Says a b
-  lines_served now limit some a b no_line = says_still a
-  lines_served now limit some a b (line_after {place} {busy} {moved} {t} before line) =
-      says_then a t b (lines_served now place busy a t before) (line_served now place moved t b line)
+  turn_had : (pace : Pace) (now place : ℕ) (moved : Bool) (a b : Server (Serving K)) → HasItsTurn g pace now place moved a b → Says a b
+  turn_had pace now place moved a b (it_is_served line) = line_served now place moved a b line
+  turn_had pace now place moved a b (it_is_passed_over brisk rests) = says_still a
+
+  lines_served : (pace : Pace) (now limit : ℕ) (some : Bool) (a b : Server (Serving K)) → ServesBelow g pace now limit some a b → Says a b
+  lines_served pace now limit some a b no_line = says_still a
+  lines_served pace now limit some a b (line_after {place} {busy} {moved} {t} before line) =
+      says_then a t b (lines_served pace now place busy a t before) (turn_had pace now place moved t b line)
 
   ticked : (now : ℕ) (again : Bool) (a b : Server (Serving K)) → IsTicked g now again a b → Says a b
   ticked now again a b h = one_says a b (was_asked now _ h.answer h.called) (ticks_said h.answer a.wires b.wires h.told)
@@ -149,9 +155,9 @@ module _ {K : Type 0} (g : Ghosts K) where
   ticks now limit a b (enough_ticks {n} before is) = ticked_so_far now a n b before
 
   -- each connection has its turn, and then the clock
-  pub all_served : (now : ℕ) (moved : Bool) (a b : Server (Serving K)) → ServesAll g now moved a b → Says a b
-  all_served now moved a b h =
-      says_then a h.served b (lines_served now _ moved a h.served h.serves)
+  pub all_served : (pace : Pace) (now : ℕ) (moved : Bool) (a b : Server (Serving K)) → ServesAll g pace now moved a b → Says a b
+  all_served pace now moved a b h =
+      says_then a h.served b (lines_served pace now _ moved a h.served h.serves)
       (says_then h.served h.ticked b (ticks now _ h.served h.ticked h.ticks)
       (quiet_says h.ticked b h.same
       (related_said [] (λ x y. WritesLast x.fate x y) (λ x y. last_said x.fate x y) h.ticked.wires b.wires h.writes)))
@@ -197,7 +203,7 @@ module _ {K : Type 0} (g : Ghosts K) where
   turn_says now busy h i has =
       let turn = has.turn in
       says_then _ turn.accepted _ (accepted now has.came (server h.engine h.links.wires) turn.accepted turn.accepts)
-      (says_then turn.accepted turn.served _ (all_served now turn.moved turn.accepted turn.served turn.serves)
+      (says_then turn.accepted turn.served _ (all_served Full now turn.moved turn.accepted turn.served turn.serves)
       (drops_says turn.served (server i.engine i.links.wires) turn.drops))
 
   stored_says : (went : Bool) (a b : Server (Serving K)) → IsStoredOrPutOff g went a b → Says a b
@@ -227,17 +233,17 @@ module _ {K : Type 0} (g : Ghosts K) where
 
   -- ---- stretches of turns that are stored together
 
-  turn_said : (now : ℕ) (busy : Bool) (h i : Hosting (Serving K)) → ServedTurn g now busy h i
+  turn_said : (pace : Pace) (now : ℕ) (busy : Bool) (h i : Hosting (Serving K)) → ServedTurn g pace now busy h i
       → Says (server h.engine h.links.wires) (server i.engine i.links.wires)
-  turn_said now busy h i turn =
+  turn_said pace now busy h i turn =
       says_then _ turn.accepted _ (accepted now turn.came (server h.engine h.links.wires) turn.accepted turn.accepts)
-      (all_served now turn.moved turn.accepted (server i.engine i.links.wires) turn.serves)
+      (all_served pace now turn.moved turn.accepted (server i.engine i.links.wires) turn.serves)
 
   together_said : (begin : ℕ) (moments : List ℕ) (at : ℕ) (some : Bool) (old new : Hosting (Serving K)) → Together g begin moments at some old new
       → Says (server old.engine old.links.wires) (server new.engine new.links.wires)
   together_said begin moments at some old new not_begun = says_still (server old.engine old.links.wires)
   together_said begin moments at some old new (turn_more {read} {last} now {busy} {i} turns turn) =
-      says_then _ (server i.engine i.links.wires) _ (together_said begin read last true old i turns) (turn_said (max last now) busy i new turn)
+      says_then _ (server i.engine i.links.wires) _ (together_said begin read last true old i turns) (turn_said (pace_of last now) (max last now) busy i new turn)
 
   -- the steps are stored, and what is held goes out
   stretch_said : (begin : ℕ) (read : List ℕ) (last : ℕ) (busy : Bool) (h i : Hosting (Serving K)) → Stretch g begin read last busy h i

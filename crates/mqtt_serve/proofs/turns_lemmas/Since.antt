@@ -9,10 +9,11 @@ use Rattle.mqtt_broker_step.specs.declared.call.EngineError.TheVariants.{Memory,
 use Rattle.mqtt_broker.specs.declared.stored.outcome.Outcome.{Outcome}
 use Rattle.mqtt_broker.specs.engine.Serving.{Serving}
 use Rattle.mqtt_broker.specs.stored.Running.{Running}
+use Rattle.mqtt_serve.specs.declared.turns.turn.Pace.{Pace}
 use Rattle.mqtt_serve.specs.turns.Breaks.{BreaksAll, BreaksLine}
 use Rattle.mqtt_serve.specs.turns.Leaving.{AreCalls, HoldsBack, IsAllStored, IsCalled, IsHeldSince, IsLeftByCall, IsLeftSince, NothingLeaves, WasSaid, call_after, gone, line_linked, no_call, piece_came, was_asked, was_told}
 use Rattle.mqtt_serve.specs.turns.Settled.{IsStored, IsStoredOrPutOff, LetsGoBelow, ServedTurn, Stretch, StretchBreaksOff, Stretches, Together, no_stretch, none_yet, not_begun, one_after, stretch_after, turn_more}
-use Rattle.mqtt_serve.specs.turns.Turns.{Accepts, Gives, GivenSoFar, GivesIf, Hosting, IsPieced, IsTicked, LosesIf, PumpsIf, Server, ServesAll, ServesBelow, ServesLine, Tells, TickedSoFar, Ticks, TicksBy, all_given, enough_ticks, given_up, last_tick, line_after, no_line, no_tick, nothing_yet, piece_after, rested, server, tick_after}
+use Rattle.mqtt_serve.specs.turns.Turns.{Accepts, GivenSoFar, Gives, GivesIf, HasItsTurn, Hosting, IsPieced, IsTicked, LosesIf, PumpsIf, Server, ServesAll, ServesBelow, ServesLine, Tells, TickedSoFar, Ticks, TicksBy, all_given, enough_ticks, given_up, it_is_passed_over, it_is_served, last_tick, line_after, no_line, no_tick, nothing_yet, pace_of, piece_after, rested, server, tick_after}
 use Rattle.mqtt_serve.specs.turns.Wires.{Wire}
 use Rattle.mqtt_serve.proofs.turns_lemmas.Silent.{let_go_said, silent_last, silent_lost, silent_read, silent_reached, silent_still, silent_then, silent_written}
 
@@ -88,10 +89,14 @@ module _ {K : Type 0} (g : Ghosts K) where
       (holds_then h.sent wrote b (holds_quiet h.sent wrote refl (silent_written place h.wrote h.sent.wires h.written h.writes))
       (loses_if now h.number _ wrote b h.loses))))
 
-  lines_served : (now limit : ℕ) (some : Bool) (a b : Server (Serving K)) → ServesBelow g now limit some a b → HoldsBack g a b
-  lines_served now limit some a b no_line = holds_still a
-  lines_served now limit some a b (line_after {place} {busy} {moved} {t} before line) =
-      holds_then a t b (lines_served now place busy a t before) (line_served now place moved t b line)
+  turn_had : (pace : Pace) (now place : ℕ) (moved : Bool) (a b : Server (Serving K)) → HasItsTurn g pace now place moved a b → HoldsBack g a b
+  turn_had pace now place moved a b (it_is_served line) = line_served now place moved a b line
+  turn_had pace now place moved a b (it_is_passed_over brisk rests) = holds_still a
+
+  lines_served : (pace : Pace) (now limit : ℕ) (some : Bool) (a b : Server (Serving K)) → ServesBelow g pace now limit some a b → HoldsBack g a b
+  lines_served pace now limit some a b no_line = holds_still a
+  lines_served pace now limit some a b (line_after {place} {busy} {moved} {t} before line) =
+      holds_then a t b (lines_served pace now place busy a t before) (turn_had pace now place moved t b line)
 
   tick_silent : (answer : Result Outcome EngineError) (old new : List Wire) → TicksBy answer old new → NothingLeaves old new
   tick_silent (Ok out) old new told = silent_reached out.outputs.items out.closed.items old new told
@@ -110,9 +115,9 @@ module _ {K : Type 0} (g : Ghosts K) where
   ticks now limit a b (last_tick {n} {mid} before within tick) = holds_then a mid b (ticked_so_far now a n mid before) (ticked now false mid b tick)
   ticks now limit a b (enough_ticks {n} before is) = ticked_so_far now a n b before
 
-  all_served : (now : ℕ) (moved : Bool) (a b : Server (Serving K)) → ServesAll g now moved a b → HoldsBack g a b
-  all_served now moved a b h =
-      holds_then a h.served b (lines_served now _ moved a h.served h.serves)
+  all_served : (pace : Pace) (now : ℕ) (moved : Bool) (a b : Server (Serving K)) → ServesAll g pace now moved a b → HoldsBack g a b
+  all_served pace now moved a b h =
+      holds_then a h.served b (lines_served pace now _ moved a h.served h.serves)
       (holds_then h.served h.ticked b (ticks now _ h.served h.ticked h.ticks)
       (holds_quiet h.ticked b h.same (silent_last h.ticked.wires b.wires h.writes)))
 
@@ -128,12 +133,12 @@ module _ {K : Type 0} (g : Ghosts K) where
   }
   accepted now true a b (inr (inr h)) = subst (HoldsBack g a) (sym h.same) (holds_still a)
 
-  turn_held : (now : ℕ) (busy : Bool) (h i : Hosting (Serving K)) → ServedTurn g now busy h i
+  turn_held : (pace : Pace) (now : ℕ) (busy : Bool) (h i : Hosting (Serving K)) → ServedTurn g pace now busy h i
       → HoldsBack g (server h.engine h.links.wires) (server i.engine i.links.wires)
-  turn_held now busy h i turn =
+  turn_held pace now busy h i turn =
       holds_then (server h.engine h.links.wires) turn.accepted (server i.engine i.links.wires)
       (accepted now turn.came (server h.engine h.links.wires) turn.accepted turn.accepts)
-      (all_served now turn.moved turn.accepted (server i.engine i.links.wires) turn.serves)
+      (all_served pace now turn.moved turn.accepted (server i.engine i.links.wires) turn.serves)
 
   -- up to the storing of a stretch everything is held back
   pub together_held : (begin : ℕ) (moments : List ℕ) (at : ℕ) (some : Bool) (old new : Hosting (Serving K)) → Together g begin moments at some old new
@@ -141,7 +146,7 @@ module _ {K : Type 0} (g : Ghosts K) where
   together_held begin moments at some old new not_begun = holds_still (server old.engine old.links.wires)
   together_held begin moments at some old new (turn_more {read} {last} now {busy} {i} turns turn) =
       holds_then (server old.engine old.links.wires) (server i.engine i.links.wires) (server new.engine new.links.wires)
-      (together_held begin read last true old i turns) (turn_held (max last now) busy i new turn)
+      (together_held begin read last true old i turns) (turn_held (pace_of last now) (max last now) busy i new turn)
 
   -- ---- in a turn that breaks off
 
@@ -168,10 +173,10 @@ module _ {K : Type 0} (g : Ghosts K) where
       (holds_then h.sent wrote b (holds_quiet h.sent wrote refl (silent_written place h.wrote h.sent.wires h.written h.writes))
       (refused_held wrote b (was_asked now _ (Err error) h.refused.called) h.refused.same))))
 
-  all_broken : (now : ℕ) (error : EngineError) (a b : Server (Serving K)) → BreaksAll g now error a b → HoldsBack g a b
-  all_broken now error a b (inl h) = holds_then a h.mid b (lines_served now h.place h.moved a h.mid h.serves) (line_broken now h.place error h.mid b h.breaks)
-  all_broken now error a b (inr h) =
-      holds_then a h.mid b (lines_served now _ h.moved a h.mid h.serves)
+  all_broken : (pace : Pace) (now : ℕ) (error : EngineError) (a b : Server (Serving K)) → BreaksAll g pace now error a b → HoldsBack g a b
+  all_broken pace now error a b (inl h) = holds_then a h.mid b (lines_served pace now h.place h.moved a h.mid h.serves) (line_broken now h.place error h.mid b h.breaks)
+  all_broken pace now error a b (inr h) =
+      holds_then a h.mid b (lines_served pace now _ h.moved a h.mid h.serves)
       (holds_then h.mid h.breaks.mid b (ticked_so_far now h.mid h.breaks.n h.breaks.mid h.breaks.so_far)
       (refused_held h.breaks.mid b (was_asked now _ (Err error) h.breaks.refused.called) h.breaks.refused.same))
 
@@ -182,7 +187,7 @@ module _ {K : Type 0} (g : Ghosts K) where
       let turn = h.breaks in
       holds_then _ (server h.mid.engine h.mid.links.wires) _ (together_held begin h.first h.last true old h.mid h.turns)
       (holds_then _ turn.accepted _ (accepted (max h.last h.now) turn.came _ turn.accepted turn.accepts)
-      (all_broken (max h.last h.now) error turn.accepted _ turn.breaks))
+      (all_broken (pace_of h.last h.now) (max h.last h.now) error turn.accepted _ turn.breaks))
   broken_held begin read error old new (inr h) =
       holds_then _ (server h.served.engine h.served.links.wires) _ (together_held begin read h.last h.moved old h.served h.turns)
       (refused_held _ _ (was_told (Err error) h.stores.called) h.stores.same)

@@ -9,6 +9,8 @@ use Rattle.mqtt_broker.specs.engine.Serving.{Serving, Served}
 use Rattle.mqtt_link.specs.Links.{and_then, asked}
 use Rattle.mqtt_serve.specs.declared.turns.giving.TheConstants.{PIECE_LIMIT}
 use Rattle.mqtt_serve.specs.declared.turns.turn.TheConstants.{TICK_LIMIT}
+use Rattle.mqtt_serve.specs.declared.turns.turn.Pace.{Pace}
+use Rattle.mqtt_serve.specs.declared.turns.turn.Pace.TheVariants.{Full}
 use Rattle.mqtt_serve.specs.turns.Wires.{Wire}
 use Rattle.mqtt_serve.specs.turns.Turns.{Server, server, Hosting, Accepts, GivenSoFar, GivesIf, HasTurn, IsRead, PumpsIf, ServesBelow, TickedSoFar, TurnsBy, WritesAt, is_lost_at, may_send_at}
 
@@ -89,33 +91,33 @@ pub record BreaksTicks {K : Type 0} (g : Ghosts K) (now limit : ℕ) (error : En
 
 -- ---- in a turn of the server
 
--- some connections had their turns, and that of the next breaks off
-pub record BreaksBelow {K : Type 0} (g : Ghosts K) (now limit : ℕ) (error : EngineError) (old new : Server (Serving K)) : Type 0 where
+-- some connections had their turns, and that of a later one breaks off
+pub record BreaksBelow {K : Type 0} (g : Ghosts K) (pace : Pace) (now limit : ℕ) (error : EngineError) (old new : Server (Serving K)) : Type 0 where
   pub place : ℕ
   pub moved : Bool
   pub mid : Server (Serving K)
-  pub serves : ServesBelow g now place moved old mid
+  pub serves : ServesBelow g pace now place moved old mid
   pub within : place < limit
   pub breaks : BreaksLine g now place error mid new
 
 -- all connections had their turns, and a turn of the clock breaks off
-pub record BreaksAfter {K : Type 0} (g : Ghosts K) (now limit : ℕ) (error : EngineError) (old new : Server (Serving K)) : Type 0 where
+pub record BreaksAfter {K : Type 0} (g : Ghosts K) (pace : Pace) (now limit : ℕ) (error : EngineError) (old new : Server (Serving K)) : Type 0 where
   pub moved : Bool
   pub mid : Server (Serving K)
-  pub serves : ServesBelow g now limit moved old mid
+  pub serves : ServesBelow g pace now limit moved old mid
   pub breaks : BreaksTicks g now TICK_LIMIT error mid new
 
-abbrev pub BreaksAll : {K : Type 0} → Ghosts K → ℕ → EngineError → Server (Serving K) → Server (Serving K) → Type 0
-BreaksAll g now error old new =
-    BreaksBelow g now (length old.wires) error old new ⊎ BreaksAfter g now (length old.wires) error old new
+abbrev pub BreaksAll : {K : Type 0} → Ghosts K → Pace → ℕ → EngineError → Server (Serving K) → Server (Serving K) → Type 0
+BreaksAll g pace now error old new =
+    BreaksBelow g pace now (length old.wires) error old new ⊎ BreaksAfter g pace now (length old.wires) error old new
 
 -- a turn began, with or without a new connection, and the turn of a connection or of the clock broke off
-pub record BreaksOff {K : Type 0} (g : Ghosts K) (now : ℕ) (error : EngineError) (old new : Hosting (Serving K)) : Type 0 where
+pub record BreaksOff {K : Type 0} (g : Ghosts K) (pace : Pace) (now : ℕ) (error : EngineError) (old new : Hosting (Serving K)) : Type 0 where
   pub came : Bool
   pub accepted : Server (Serving K)
   pub counted : new.links.calls ≡ asked came old.links.calls
   pub accepts : Accepts g now came (server old.engine old.links.wires) accepted
-  pub breaks : BreaksAll g now error accepted (server new.engine new.links.wires)
+  pub breaks : BreaksAll g pace now error accepted (server new.engine new.links.wires)
 
 -- ---- in turns one after the other
 
@@ -132,4 +134,4 @@ pub record RunsUntilBy {E : Type 0} (turn : ℕ → Bool → Hosting E → Hosti
   pub breaks : breaks_off (max last now) error mid new
 
 abbrev pub RunsUntil : {K : Type 0} → Ghosts K → ℕ → ℕ → EngineError → Option (List ℕ) → Option (List ℕ) → Hosting (Serving K) → Hosting (Serving K) → Type 0
-RunsUntil g begin turns error told told_then old new = RunsUntilBy (HasTurn g) (BreaksOff g) begin turns error told told_then old new
+RunsUntil g begin turns error told told_then old new = RunsUntilBy (HasTurn g) (BreaksOff g Full) begin turns error told told_then old new

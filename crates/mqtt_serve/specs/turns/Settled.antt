@@ -8,9 +8,10 @@ use Rattle.mqtt_broker.specs.engine.Serving.{Serving}
 use Rattle.mqtt_broker.specs.stored.Settling.{SettleCalled}
 use Rattle.mqtt_link.specs.Links.{Calls, and_then, asked}
 use Rattle.mqtt_serve.specs.declared.turns.settling.TheConstants.{TURNS_TOGETHER}
+use Rattle.mqtt_serve.specs.declared.turns.turn.Pace.{Pace}
 use Rattle.mqtt_serve.specs.turns.Breaks.{BreaksOff}
 use Rattle.mqtt_serve.specs.turns.Related.{RelatedAt}
-use Rattle.mqtt_serve.specs.turns.Turns.{Server, server, Hosting, hosting, Linked, Accepts, Begins, ServesAll, rested, without_closed}
+use Rattle.mqtt_serve.specs.turns.Turns.{Server, server, Hosting, hosting, Linked, Accepts, Begins, ServesAll, pace_of, rested, without_closed}
 use Rattle.mqtt_serve.specs.turns.Wires.{Wire, LetsGo}
 
 -- ---- what is held back goes out
@@ -46,22 +47,23 @@ IsStoredOrPutOff g went old new = IsStored g went old new ⊎ IsPutOff g went ol
 
 -- ---- turns that are not stored yet
 
--- at most one connection comes, the connections have their turns, and then the clock, as in any turn; nothing goes out, and no
+-- at most one connection comes, the connections have their turns, all or some, and then the clock, as in any turn; nothing goes out, and no
 -- connection is dropped. Whether a connection came, or bytes came or went
-pub record ServedTurn {K : Type 0} (g : Ghosts K) (now : ℕ) (busy : Bool) (old new : Hosting (Serving K)) : Type 0 where
+pub record ServedTurn {K : Type 0} (g : Ghosts K) (pace : Pace) (now : ℕ) (busy : Bool) (old new : Hosting (Serving K)) : Type 0 where
   pub came : Bool
   pub accepted : Server (Serving K)
   pub moved : Bool
   pub counted : new.links.calls ≡ asked came old.links.calls
   pub accepts : Accepts g now came (server old.engine old.links.wires) accepted
-  pub serves : ServesAll g now moved accepted (server new.engine new.links.wires)
+  pub serves : ServesAll g pace now moved accepted (server new.engine new.links.wires)
   pub busy_is : busy ≡ (came || moved)
 
--- one turn after the other, each at the greatest moment that was read, and each behind one that was busy. Whether the last was
+-- one turn after the other, each at the greatest moment that was read, and each behind one that was busy; the first in each span
+-- of FULL_TURN_EVERY milliseconds is full. Whether the last was busy
 pub data Together {K : Type 0} (g : Ghosts K) (begin : ℕ) : List ℕ → ℕ → Bool → Hosting (Serving K) → Hosting (Serving K) → Type 0 where
   not_begun : {h : Hosting (Serving K)} → Together g begin [] begin true h h
   turn_more : {read : List ℕ} {last : ℕ} (now : ℕ) {busy : Bool} {h i j : Hosting (Serving K)} → Together g begin read last true h i
-      → ServedTurn g (max last now) busy i j → Together g begin (read ++ now ∷ []) (max last now) busy h j
+      → ServedTurn g (pace_of last now) (max last now) busy i j → Together g begin (read ++ now ∷ []) (max last now) busy h j
 
 -- ---- a stretch: one turn to TURNS_TOGETHER, and then their steps are stored, together
 
@@ -88,7 +90,7 @@ pub record BreaksServing {K : Type 0} (g : Ghosts K) (begin : ℕ) (read : List 
   pub read_is : read ≡ first ++ now ∷ []
   pub few : length first < TURNS_TOGETHER
   pub turns : Together g begin first last true old mid
-  pub breaks : BreaksOff g (max last now) error mid new
+  pub breaks : BreaksOff g (pace_of last now) (max last now) error mid new
 
 -- the store has failed, and nothing goes out
 pub record StoresNothing {K : Type 0} (g : Ghosts K) (error : EngineError) (old new : Server (Serving K)) : Type 0 where

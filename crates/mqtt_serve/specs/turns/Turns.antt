@@ -1,5 +1,5 @@
 -- A turn of the server: what is asked of the broker, in order, and what its answers make of the connections (MQTT 5.0, 4.2).
-use Rattle.std.specs.Prelude.{◌≡◌, ◌⊎◌, ℕ, ◌+◌, ◌<◌, ◌≤◌, max, nat_lt, Bool, true, false, not, ◌||◌, List, [], ◌∷◌, ◌++◌, length, drop, filter, slice_get, Option, Some, None, option_map, Result, Ok, Err}
+use Rattle.std.specs.Prelude.{◌≡◌, ◌⊎◌, ℕ, ◌+◌, ◌/◌, ◌<◌, ◌≤◌, max, nat_eq, nat_lt, cond, Bool, true, false, not, ◌||◌, List, [], ◌∷◌, ◌++◌, length, drop, filter, slice_get, Option, Some, None, option_map, Result, Ok, Err}
 use Rattle.mqtt_base.specs.declared.limits.TheConstants.{LINE_LIMIT}
 use Rattle.mqtt_link.specs.Links.{Calls, and_then, asked, waited}
 use Rattle.mqtt_keep.specs.declared.keeping.keep.Keep.{Ghosts}
@@ -15,7 +15,9 @@ use Rattle.mqtt_broker_step.specs.Doing.{next_line}
 use Rattle.mqtt_broker.specs.engine.Piece.{PieceCalled}
 use Rattle.mqtt_broker.specs.engine.Serving.{Serving, Served, with_linked}
 use Rattle.mqtt_serve.specs.declared.turns.giving.TheConstants.{PIECE_LIMIT}
-use Rattle.mqtt_serve.specs.declared.turns.turn.TheConstants.{READ_LIMIT, TICK_LIMIT}
+use Rattle.mqtt_serve.specs.declared.turns.turn.TheConstants.{FULL_TURN_EVERY, READ_LIMIT, TICK_LIMIT}
+use Rattle.mqtt_serve.specs.declared.turns.turn.Pace.{Pace}
+use Rattle.mqtt_serve.specs.declared.turns.turn.Pace.TheVariants.{Full, Brisk}
 use Rattle.mqtt_serve.specs.turns.Related.{Related, RelatedAt}
 use Rattle.mqtt_serve.specs.turns.Wires.{Wire, IsOpened, Reads, WritesAnd, WritesLast, Reaches, AreLost, is_standing, is_lost, is_closed, may_send}
 
@@ -178,11 +180,21 @@ pub record ServesLine {K : Type 0} (g : Ghosts K) (now place : ℕ) (moved : Boo
   pub loses : LosesIf g now number (is_lost_at place written) (server sent.engine written) new
   pub moved_is : moved ≡ (wrote || nat_lt 0 (length bytes))
 
--- each connection below a place has its turn, in order. Whether bytes came or went
-pub data ServesBelow {K : Type 0} (g : Ghosts K) (now : ℕ) : ℕ → Bool → Server (Serving K) → Server (Serving K) → Type 0 where
-  no_line : {s : Server (Serving K)} → ServesBelow g now 0 false s s
-  line_after : {place : ℕ} {busy moved : Bool} {s t u : Server (Serving K)} → ServesBelow g now place busy s t
-      → ServesLine g now place moved t u → ServesBelow g now (place + 1) (busy || moved) s u
+-- what waits on the connection at a place has gone out, and it stands
+pub record MayRest (place : ℕ) (wires : List Wire) : Type 0 where
+  pub may_send : may_send_at place wires ≡ true
+  pub nothing_waits : option_map (λ w. w.waits) (slice_get wires place) ≡ Some []
+
+-- it has its turn; or it is passed over, in a brisk turn of the server, if nothing waits on it
+pub data HasItsTurn {K : Type 0} (g : Ghosts K) (pace : Pace) (now place : ℕ) : Bool → Server (Serving K) → Server (Serving K) → Type 0 where
+  it_is_served : {moved : Bool} {s t : Server (Serving K)} → ServesLine g now place moved s t → HasItsTurn g pace now place moved s t
+  it_is_passed_over : {s : Server (Serving K)} → pace ≡ Brisk → MayRest place s.wires → HasItsTurn g pace now place false s s
+
+-- so each connection below a place, in order. Whether bytes came or went
+pub data ServesBelow {K : Type 0} (g : Ghosts K) (pace : Pace) (now : ℕ) : ℕ → Bool → Server (Serving K) → Server (Serving K) → Type 0 where
+  no_line : {s : Server (Serving K)} → ServesBelow g pace now 0 false s s
+  line_after : {place : ℕ} {busy moved : Bool} {s t u : Server (Serving K)} → ServesBelow g pace now place busy s t
+      → HasItsTurn g pace now place moved t u → ServesBelow g pace now (place + 1) (busy || moved) s u
 
 -- ---- turns of the clock
 
@@ -245,11 +257,16 @@ Accepts g now true old new = IsLinked now old new ⊎ (IsFull now old new ⊎ Is
 
 -- ---- a turn
 
--- each connection has its turn, then the clock; what waits on connections that the broker closed is written once more
-pub record ServesAll {K : Type 0} (g : Ghosts K) (now : ℕ) (moved : Bool) (old new : Server (Serving K)) : Type 0 where
+-- the first turn in each span of FULL_TURN_EVERY milliseconds is full; turns behind it are brisk
+abbrev pub pace_of : ℕ → ℕ → Pace
+pace_of last now = cond (nat_eq (now / FULL_TURN_EVERY) (last / FULL_TURN_EVERY)) Brisk Full
+
+-- each connection has its turn, unless it is passed over, then the clock; what waits on connections that the broker closed is written
+-- once more
+pub record ServesAll {K : Type 0} (g : Ghosts K) (pace : Pace) (now : ℕ) (moved : Bool) (old new : Server (Serving K)) : Type 0 where
   pub served : Server (Serving K)
   pub ticked : Server (Serving K)
-  pub serves : ServesBelow g now (length old.wires) moved old served
+  pub serves : ServesBelow g pace now (length old.wires) moved old served
   pub ticks : Ticks g now TICK_LIMIT served ticked
   pub writes : Related (λ x y. WritesLast x.fate x y) ticked.wires new.wires
   pub same : new.engine ≡ ticked.engine
@@ -264,7 +281,7 @@ pub record Turn {K : Type 0} (g : Ghosts K) (now : ℕ) (came busy : Bool) (old 
   pub moved : Bool
   pub served : Server (Serving K)
   pub accepts : Accepts g now came old accepted
-  pub serves : ServesAll g now moved accepted served
+  pub serves : ServesAll g Full now moved accepted served
   pub drops : new ≡ server served.engine (without_closed served.wires)
   pub busy_is : busy ≡ (came || moved)
 

@@ -15,14 +15,13 @@ use crate::causes::{Cause, of_engine, of_socket};
 use crate::gathered::Gathered;
 use crate::journal::Journal;
 use crate::serving::clock::{SteadyClock, moment};
-use crate::serving::poll_link::PollLink;
 use crate::serving::store::{
     close_database, open_database, open_engine, store_over, stored_moment, told_apart,
 };
 use crate::turns::{Links, run_settled_turns};
 use mqtt_broker::Engine;
 use mqtt_keep::{Keep, Settles};
-use mqtt_link::{Commit, HeldBack};
+use mqtt_link::{Commit, HeldBack, PollLink};
 use mqtt_rules::Capacity;
 use mqtt_store::SqlKeep;
 use sqlite::{Alter, Connection, FileFrom, FileStore, Start};

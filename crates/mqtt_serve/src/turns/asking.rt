@@ -6,6 +6,7 @@ ghost use Rattle.mqtt_serve.specs.turns.Turns.{server, may_send_at, stands_at, i
 
 use crate::journal::{Call, Journal, Loss};
 use crate::turns::connection::Connection;
+use crate::turns::stirring::{calm_by, stir_by};
 use crate::turns::telling::{deliver, lose};
 use mqtt_broker::{Engine, Outcome};
 use mqtt_broker_step::EngineError;
@@ -99,6 +100,7 @@ pub(crate) fn pump_at<L: Link, K: Keep, J: Journal>(
     }
     let answer = engine.pump(number, moment);
     journal.answered(moment, Call::Pump { line: number }, engine, &answer);
+    calm_by(lines, place, &answer);
     tell(lines, number, &answer)
 }
 
@@ -125,6 +127,7 @@ pub(crate) fn report_at<L: Link, K: Keep, J: Journal>(
     let why = loss_at(lines, place);
     let answer = engine.lost(number, moment);
     journal.answered(moment, Call::Lost { line: number, why }, engine, &answer);
+    stir_by(lines, engine, &answer);
     tell(lines, number, &answer)
 }
 
@@ -143,6 +146,7 @@ pub(crate) fn tick<L: Link, K: Keep, J: Journal>(
 {
     let answer = engine.tick(moment);
     journal.answered(moment, Call::Tick, engine, &answer);
+    stir_by(lines, engine, &answer);
     match answer {
         Ok(out) => {
             deliver(lines, &out);

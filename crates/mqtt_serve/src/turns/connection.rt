@@ -1,5 +1,5 @@
 //! A connection: its line of the broker, what waits to go out on it, and what becomes of it (MQTT 5.0, 4.2).
-ghost use Rattle.std.specs.Prelude.{◌≡◌, ◌≤◌, ◌++◌, [], ℕ, false, length, take, OnOk, IfErr};
+ghost use Rattle.std.specs.Prelude.{◌≡◌, ◌≤◌, ◌++◌, [], ℕ, true, false, length, take, OnOk, IfErr, IsTrue};
 ghost use Rattle.mqtt_serve.specs.turns.Wires.{FindsNoRoom, Reads, Hears, LetsGo, WritesAnd, WritesLast, bytes_to, closing, is_standing, is_lost, is_closed, lost_if, may_send};
 
 use crate::journal::Loss;
@@ -29,6 +29,12 @@ pub struct Connection<L: Link> {
     is_clear: bool,
     /// Whether the last read filled its buffer.
     has_more: bool,
+    /// Whether bytes came or went on it in its last turn.
+    has_moved: bool,
+    /// Whether the broker may have something to send on it.
+    pub(crate) is_stirred: bool,
+    /// The birth of the session that is connected on its line, once it is known.
+    pub(crate) birth: Option<u64>,
     fate: Fate,
     /// Why it is lost, if it is.
     loss: Loss,
@@ -104,6 +110,9 @@ impl<L: Link> Connection<L> {
             waiting: Waiting::new(alloc),
             is_clear: false,
             has_more: false,
+            has_moved: false,
+            is_stirred: true,
+            birth: None,
             fate: Fate::Stands,
             loss: Loss::Closed,
             seen: Seen::new(),
@@ -155,9 +164,25 @@ impl<L: Link> Connection<L> {
         self.has_more
     }
 
-    /// Whether something waits on it that was not tried to be written yet.
+    /// Whether something waits on it, or may be sent, that was not tried to be written yet.
     pub fn has_new(&self) -> bool {
-        self.may_send() && !self.waiting.is_empty()
+        self.may_send() && (self.is_stirred || !self.waiting.is_empty())
+    }
+
+    /// It is passed over if it may be: it stands and nothing waits on it, the broker has nothing to send on it, and the link tells
+    /// that nothing has come. Whether it is.
+    pub fn rest(&mut self, link: &L) -> bool
+        ensures sends { IsTrue result → may_send self.old ≡ true }
+        ensures clear { IsTrue result → self.old.waits ≡ [] }
+        ensures same { self.new ≡ self.old }
+    {
+        self.has_moved = false;
+        self.may_send() && self.waiting.is_empty() && !self.is_stirred && !link.may_give(&self.peer)
+    }
+
+    /// Whether bytes came or went on it in its last turn.
+    pub fn has_moved(&self) -> bool {
+        self.has_moved
     }
 
     /// Whether what waits on it can wait on: its line isn't closed, and at most half of what may wait does.
@@ -188,6 +213,7 @@ impl<L: Link> Connection<L> {
             }
         };
         self.has_more = count == buffer.len();
+        self.has_moved = count > 0;
         count
     }
 
@@ -207,7 +233,9 @@ impl<L: Link> Connection<L> {
         if before > 0 {
             self.is_clear = self.waiting.is_empty();
         }
-        self.waiting.len() < before
+        let wrote = self.waiting.len() < before;
+        self.has_moved |= wrote;
+        wrote
     }
 
     /// Writes once more what waits, if the broker has closed its line.

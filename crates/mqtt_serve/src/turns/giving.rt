@@ -7,6 +7,7 @@ use crate::journal::{Call, Journal};
 use crate::turns::asking::{stands_at, tell};
 use crate::turns::connection::Connection;
 use crate::turns::holding::note_at;
+use crate::turns::stirring::stir_by;
 use crate::turns::telling::lose;
 use mqtt_broker::Engine;
 use mqtt_broker_step::EngineError;
@@ -42,6 +43,7 @@ fn give_piece<L: Link, K: Keep, J: Journal>(
     };
     journal.answered(moment, call, engine, &answer);
     note_at(lines, place, &answer, moment);
+    stir_by(lines, engine, &answer);
     tell(lines, number, &answer)?;
     match answer {
         Ok(out) => Ok((out.taken, out.again)),

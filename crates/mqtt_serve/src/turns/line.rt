@@ -1,17 +1,35 @@
 //! The turn of one connection (MQTT 5.0, 4.2).
-ghost use Rattle.std.specs.Prelude.{◌≡◌, ◌≢◌, ◌≤◌, ◌<◌, length, take, OnOk, IfOk, IfErr};
+ghost use Rattle.std.specs.Prelude.{◌≡◌, ◌≢◌, ◌≤◌, ◌<◌, length, take, OnOk, IfOk, IfErr, IsTrue};
 ghost use Rattle.mqtt_serve.specs.turns.Breaks.{BreaksLine};
-ghost use Rattle.mqtt_serve.specs.turns.Turns.{server, ReadsAt, WritesAt, ServesLine};
+ghost use Rattle.mqtt_serve.specs.turns.Turns.{server, HasItsTurn, MayRest, ReadsAt, WritesAt, ServesLine};
 
 use crate::journal::Journal;
 use crate::turns::asking::{number_at, pump_at, report_at};
 use crate::turns::connection::Connection;
 use crate::turns::giving::give_at;
-use crate::turns::turn::READ_LIMIT;
+use crate::turns::turn::{Pace, READ_LIMIT};
 use mqtt_broker::Engine;
 use mqtt_broker_step::EngineError;
 use mqtt_keep::Keep;
 use mqtt_link::Link;
+
+/// The connection at a place is passed over, if it may be. Whether it is.
+fn pass_over<L: Link>(
+    link: &L,
+    lines: &mut [Connection<L>],
+    place: usize,
+    pace: Pace,
+) -> bool
+    requires place { place < length lines.old }
+    ensures brisk { IsTrue result → pace ≡ Pace.Brisk }
+    ensures rests { IsTrue result → MayRest place lines.old }
+    ensures same { lines.new ≡ lines.old }
+{
+    match pace {
+        Pace::Full => false,
+        Pace::Brisk => lines[place].rest(link),
+    }
+}
 
 /// The connection at a place is read once: how many bytes came.
 fn read_at<L: Link>(
@@ -41,7 +59,7 @@ fn write_at<L: Link>(link: &mut L, lines: &mut [Connection<L>], place: usize) ->
 
 /// The turn of the connection at a place: it is read once, the broker is given what came, and sends; what waits is
 /// written once; and if it is lost the broker is told. Whether bytes went in or out.
-pub(crate) fn serve_line<L: Link, K: Keep, J: Journal>(
+fn serve_line<L: Link, K: Keep, J: Journal>(
     link: &mut L,
     lines: &mut [Connection<L>],
     engine: &mut Engine<K>,
@@ -74,4 +92,30 @@ pub(crate) fn serve_line<L: Link, K: Keep, J: Journal>(
     let wrote = write_at(link, lines, place);
     report_at(lines, engine, place, number, moment, journal)?;
     Ok(wrote | (count > 0))
+}
+
+/// The connection at a place has its turn, or is passed over, if it may be in a turn of this pace. Whether bytes went in or out.
+pub(crate) fn serve_at<L: Link, K: Keep, J: Journal>(
+    link: &mut L,
+    lines: &mut [Connection<L>],
+    engine: &mut Engine<K>,
+    place: usize,
+    pace: Pace,
+    moment: u64,
+    buffer: &mut [u8; READ_LIMIT],
+    journal: &mut J,
+) -> Result<bool, EngineError>
+    requires place { place < length lines.old }
+    ensures serves { IfOk result (λ moved. HasItsTurn K.Keep pace moment place moved
+        (server engine.old lines.old) (server engine.new lines.new)) }
+    ensures len { OnOk result (length lines.new ≡ length lines.old) }
+    ensures same { L.calls link.new ≡ L.calls link.old }
+    ensures refused { IfErr result (λ error. error ≢ EngineError.Memory) }
+    ensures breaks { IfErr result (λ error. BreaksLine K.Keep moment place error
+        (server engine.old lines.old) (server engine.new lines.new)) }
+{
+    if pass_over(link, lines, place, pace) {
+        return Ok(false);
+    }
+    serve_line(link, lines, engine, place, moment, buffer, journal)
 }

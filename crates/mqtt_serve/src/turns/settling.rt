@@ -4,7 +4,7 @@ ghost use Rattle.std.specs.Vec.{vec_capacity};
 ghost use Rattle.mqtt_serve.specs.turns.Breaks.{BreaksOff};
 ghost use Rattle.mqtt_serve.specs.turns.Related.{RelatedAt};
 ghost use Rattle.mqtt_serve.specs.turns.Settled.{IsStoredOrPutOff, LetsGoBelow, RunsSettledFor, RunsSettledUntil, RunsStretch, RunsStretchUntil, RunsTogether, RunsTogetherUntil, ServedTurn, StoresNothing};
-ghost use Rattle.mqtt_serve.specs.turns.Turns.{server, hosting};
+ghost use Rattle.mqtt_serve.specs.turns.Turns.{server, hosting, pace_of};
 ghost use Rattle.mqtt_serve.specs.turns.Wires.{LetsGo};
 
 use crate::journal::Journal;
@@ -12,7 +12,7 @@ use crate::turns::accepting::accept;
 use crate::turns::connection::Connection;
 use crate::turns::holding::hold;
 use crate::turns::running::{Timer, rest};
-use crate::turns::turn::{Links, drop_closed, serve_all};
+use crate::turns::turn::{FULL_TURN_EVERY, Links, Pace, drop_closed, serve_all};
 use mqtt_broker::Engine;
 use mqtt_broker_step::EngineError;
 use mqtt_keep::Settles;
@@ -85,23 +85,36 @@ fn store_turn<L: Link + Drop, K: Settles>(
     }
 }
 
+/// Whether a turn is full or brisk, by the moments of the turn before it and of itself.
+fn pace_of(last: u64, now: u64) -> Pace
+    ensures { result ≡ pace_of last now }
+{
+    if now / FULL_TURN_EVERY == last / FULL_TURN_EVERY {
+        Pace::Brisk
+    } else {
+        Pace::Full
+    }
+}
+
 /// A turn whose steps are not stored yet: that of `serve_turn` over a link that holds back what is written, but that connections
-/// that the broker closed aren't dropped. Whether a connection or bytes came or went. `Stopped` (2) and `Spent` (3) are the engine's.
+/// that the broker closed aren't dropped, and that a brisk one passes connections over. Whether a connection or bytes came or
+/// went. `Stopped` (2) and `Spent` (3) are the engine's.
 fn serve_unstored<L: Link + Drop, K: Settles, J: Journal>(
     links: &mut Links<HeldBack<L>>,
     engine: &mut Engine<K>,
+    pace: Pace,
     moment: u64,
     journal: &mut J,
 ) -> Result<bool, EngineError>
-    ensures turn { IfOk result (λ busy. ServedTurn K.Keep moment busy
+    ensures turn { IfOk result (λ busy. ServedTurn K.Keep pace moment busy
         (hosting engine.old links.old) (hosting engine.new links.new)) }
     ensures refused { IfErr result (λ error. error ≢ EngineError.Memory) }
-    ensures breaks { IfErr result (λ error. BreaksOff K.Keep moment error
+    ensures breaks { IfErr result (λ error. BreaksOff K.Keep pace moment error
         (hosting engine.old links.old) (hosting engine.new links.new)) }
 {
     let (alloc, link, lines) = (links.alloc, &mut links.link, &mut links.lines);
     let came = accept(alloc, link, lines, engine, moment, journal);
-    let moved = serve_all(link, lines, engine, moment, journal)?;
+    let moved = serve_all(link, lines, engine, pace, moment, journal)?;
     Ok(came | moved)
 }
 
@@ -109,17 +122,18 @@ fn serve_unstored<L: Link + Drop, K: Settles, J: Journal>(
 fn serve_chosen<L: Link + Drop, K: Settles, J: Journal>(
     links: &mut Links<HeldBack<L>>,
     engine: &mut Engine<K>,
+    pace: Pace,
     moment: u64,
     journal: &mut J,
 ) -> Result<bool, EngineError>
-    ensures turn { IfOk result (λ busy. ServedTurn K.Keep moment busy
+    ensures turn { IfOk result (λ busy. ServedTurn K.Keep pace moment busy
         (hosting engine.old links.old) (hosting engine.new links.new)) }
     ensures refused { IfErr result (λ error. error ≢ EngineError.Memory) }
-    ensures breaks { IfErr result (λ error. BreaksOff K.Keep moment error
+    ensures breaks { IfErr result (λ error. BreaksOff K.Keep pace moment error
         (hosting engine.old links.old) (hosting engine.new links.new)) }
 {
     hold(links, engine, moment);
-    serve_unstored(links, engine, moment, journal)
+    serve_unstored(links, engine, pace, moment, journal)
 }
 
 /// What the turns did is stored, as `store_turn` does.
@@ -137,16 +151,29 @@ fn store_all<L: Link + Drop, K: Settles>(
 }
 
 /// Whether the next turn comes before what was done is stored. Never after a turn in which nothing came or went, nor while a
-/// connection that the broker closed is to be dropped, or one has little room left. After the first turn else; after later ones
-/// if a read filled its buffer, so that more is at hand.
-fn goes_on<L: Link + Drop>(links: &Links<HeldBack<L>>, busy: bool, before: u32) -> bool
+/// connection that the broker closed is to be dropped, or one has little room left. After the first turn else, if something came
+/// or went on two connections, or something is to be sent on one; and after any if a read filled its buffer, so that more is at
+/// hand.
+fn goes_on<L: Link + Drop>(links: &Links<L>, busy: bool, before: u32) -> bool
     ensures { IsTrue result → busy ≡ true }
 {
-    busy && links.lines.iter().all(|line| line.can_wait())
-        && (before == 0 || links.lines.iter().any(|line| line.has_more()))
+    if !busy {
+        return false;
+    }
+    let (mut one, mut two, mut more) = (false, false, false);
+    for line in links.lines.iter() {
+        if !line.can_wait() {
+            return false;
+        }
+        two |= one && line.has_moved();
+        one |= line.has_moved();
+        more |= line.has_more() || (before == 0 && line.has_new());
+    }
+    more || (before == 0 && two)
 }
 
-/// At least one turn, and at most so many, none of which is stored yet, each at the greatest moment that the clock has told.
+/// At least one turn, and at most so many, none of which is stored yet, each at the greatest moment that the clock has told. The
+/// first in each span of 16 milliseconds is full: so no connection is passed over for longer.
 fn serve_together<L: Link + Drop, K: Settles, T: Timer, J: Journal>(
     links: &mut Links<HeldBack<L>>,
     engine: &mut Engine<K>,
@@ -166,8 +193,10 @@ fn serve_together<L: Link + Drop, K: Settles, T: Timer, J: Journal>(
 {
     let mut last = begin;
     for before in 0..limit {
-        last = last.max(timer.now());
-        let busy = serve_chosen(links, engine, last, journal)?;
+        let now = timer.now();
+        let pace = pace_of(last, now);
+        last = last.max(now);
+        let busy = serve_chosen(links, engine, pace, last, journal)?;
         if !goes_on(links, busy, before) {
             return Ok(Had {
                 turns: before + 1,

@@ -11,7 +11,7 @@ use crate::journal::{Journal, Quiet};
 use crate::turns::accepting::accept;
 use crate::turns::asking::tick;
 use crate::turns::connection::Connection;
-use crate::turns::line::serve_line;
+use crate::turns::line::serve_at;
 use mqtt_base::LINE_LIMIT;
 use mqtt_broker::Engine;
 use mqtt_broker_step::EngineError;
@@ -25,6 +25,18 @@ pub const READ_LIMIT: usize = 4_096;
 
 /// The most turns of the clock in a turn (ours).
 pub const TICK_LIMIT: usize = 16;
+
+/// How many milliseconds turns may be brisk behind a full one (ours).
+pub const FULL_TURN_EVERY: u64 = 16;
+
+/// Which connections have their turn.
+#[derive(Clone, Copy, Debug, PartialEq, Eq)]
+pub enum Pace {
+    /// Each.
+    Full,
+    /// Those for which something may have come about. Others are passed over.
+    Brisk,
+}
 
 /// A link and its connections, in the order in which they came.
 #[derive(Drop)]
@@ -86,25 +98,27 @@ impl<L: Link + Drop> Links<L> {
     }
 }
 
-/// Each connection has its turn, in order. Whether bytes went in or out.
+/// Each connection has its turn, in order; in a brisk turn those are passed over for which nothing came about. Whether bytes went
+/// in or out.
 fn serve_lines<L: Link, K: Keep, J: Journal>(
     link: &mut L,
     lines: &mut [Connection<L>],
     engine: &mut Engine<K>,
+    pace: Pace,
     moment: u64,
     journal: &mut J,
 ) -> Result<bool, EngineError>
-    ensures serves { IfOk result (λ moved. ServesBelow K.Keep moment (length lines.old) moved
+    ensures serves { IfOk result (λ moved. ServesBelow K.Keep pace moment (length lines.old) moved
         (server engine.old lines.old) (server engine.new lines.new)) }
     ensures same { L.calls link.new ≡ L.calls link.old }
     ensures refused { IfErr result (λ error. error ≢ EngineError.Memory) }
-    ensures breaks { IfErr result (λ error. BreaksBelow K.Keep moment (length lines.old) error
+    ensures breaks { IfErr result (λ error. BreaksBelow K.Keep pace moment (length lines.old) error
         (server engine.old lines.old) (server engine.new lines.new)) }
 {
     let mut buffer = [0_u8; READ_LIMIT];
     let mut busy = false;
     for place in 0..lines.len() {
-        busy |= serve_line(link, lines, engine, place, moment, &mut buffer, journal)?;
+        busy |= serve_at(link, lines, engine, place, pace, moment, &mut buffer, journal)?;
     }
     Ok(busy)
 }
@@ -148,23 +162,24 @@ pub(crate) fn drop_closed<L: Link>(lines: &mut Vec<Connection<L>>)
     lines.retain(|line| !line.is_closed());
 }
 
-/// Each connection has its turn, then the clock; what waits on connections that the broker closed is written once more.
-/// Whether bytes went in or out.
+/// Each connection has its turn, unless it is passed over, then the clock; what waits on connections that the broker closed is
+/// written once more. Whether bytes went in or out.
 pub(crate) fn serve_all<L: Link, K: Keep, J: Journal>(
     link: &mut L,
     lines: &mut [Connection<L>],
     engine: &mut Engine<K>,
+    pace: Pace,
     moment: u64,
     journal: &mut J,
 ) -> Result<bool, EngineError>
-    ensures serves { IfOk result (λ moved. ServesAll K.Keep moment moved
+    ensures serves { IfOk result (λ moved. ServesAll K.Keep pace moment moved
         (server engine.old lines.old) (server engine.new lines.new)) }
     ensures same { L.calls link.new ≡ L.calls link.old }
     ensures refused { IfErr result (λ error. error ≢ EngineError.Memory) }
-    ensures breaks { IfErr result (λ error. BreaksAll K.Keep moment error
+    ensures breaks { IfErr result (λ error. BreaksAll K.Keep pace moment error
         (server engine.old lines.old) (server engine.new lines.new)) }
 {
-    let moved = serve_lines(link, lines, engine, moment, journal)?;
+    let moved = serve_lines(link, lines, engine, pace, moment, journal)?;
     tick_all(lines, engine, moment, journal)?;
     write_closed(link, lines);
     Ok(moved)
@@ -181,12 +196,12 @@ pub fn serve_turn<L: Link + Drop, K: Keep>(
     ensures turn { IfOk result (λ busy. HasTurn K.Keep moment busy
         (hosting engine.old links.old) (hosting engine.new links.new)) }
     ensures refused { IfErr result (λ error. error ≢ EngineError.Memory) }
-    ensures breaks { IfErr result (λ error. BreaksOff K.Keep moment error
+    ensures breaks { IfErr result (λ error. BreaksOff K.Keep Pace.Full moment error
         (hosting engine.old links.old) (hosting engine.new links.new)) }
 {
     let (alloc, link, lines) = (links.alloc, &mut links.link, &mut links.lines);
     let came = accept(alloc, link, lines, engine, moment, &mut Quiet);
-    let moved = serve_all(link, lines, engine, moment, &mut Quiet)?;
+    let moved = serve_all(link, lines, engine, Pace::Full, moment, &mut Quiet)?;
     drop_closed(lines);
     Ok(came | moved)
 }

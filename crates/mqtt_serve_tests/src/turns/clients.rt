@@ -59,9 +59,18 @@ struct Client {
     stage: usize,
     at: usize,
     taken: Vec<u8>,
+    reads: u64,
 }
 
 impl Client {
+    /// Whether it has something to send now, or closes.
+    fn has_something(&self) -> bool {
+        match self.stages.get(self.stage) {
+            Some((after, _)) => self.taken.len() >= *after,
+            None => false,
+        }
+    }
+
     /// Gives the next bytes, at most so many.
     fn give(&mut self, buffer: &mut [u8], chunk: usize) -> Got<usize>
         ensures { GivesAtMost result (length buffer.new) }
@@ -133,6 +142,7 @@ impl Clients {
                 stage: 0,
                 at: 0,
                 taken: Vec::new(alloc),
+                reads: 0,
             })?;
         }
         Ok(Clients {
@@ -149,6 +159,14 @@ impl Clients {
         match self.clients.get(place) {
             Some(client) => &client.taken,
             None => &[],
+        }
+    }
+
+    /// How often a client was read.
+    pub fn reads(&self, place: usize) -> u64 {
+        match self.clients.get(place) {
+            Some(client) => client.reads,
+            None => 0,
         }
     }
 
@@ -200,6 +218,13 @@ impl Link for Clients {
         Got::Given(Peer { place })
     }
 
+    fn may_give(&self, peer: &Peer) -> bool {
+        match self.clients.get(peer.place) {
+            Some(client) => self.fault.is_some() || client.has_something(),
+            None => true,
+        }
+    }
+
     fn wait(&mut self) {}
 
     fn read(&mut self, peer: &mut Peer, buffer: &mut [u8]) -> Got<usize> {
@@ -208,7 +233,10 @@ impl Link for Clients {
         }
         let chunk = self.chunk;
         match self.clients.get_mut(peer.place) {
-            Some(client) => client.give(buffer, chunk),
+            Some(client) => {
+                client.reads = client.reads.wrapping_add(1);
+                client.give(buffer, chunk)
+            }
             None => Got::Failure,
         }
     }

@@ -37,10 +37,11 @@ impl Timer for Standing {
     }
 }
 
-/// Turns at one moment that are stored together; whether each could be had, and stored.
-pub(crate) fn stretch<L: Link + Drop, K: Settles>(
+/// Turns at one moment that are stored together, behind one at another moment; whether each could be had, and stored.
+pub(crate) fn stretch_behind<L: Link + Drop, K: Settles>(
     links: &mut Links<HeldBack<L>>,
     engine: &mut Engine<K>,
+    last: u64,
     moment: u64,
 ) -> Result<(), EngineError> {
     serve_stretch(
@@ -48,8 +49,17 @@ pub(crate) fn stretch<L: Link + Drop, K: Settles>(
         engine,
         &mut Standing { moment },
         1_000,
-        moment,
+        last,
         &mut Quiet,
     )?;
     Ok(())
+}
+
+/// The same behind one at the same moment, so that all of them are brisk.
+pub(crate) fn stretch<L: Link + Drop, K: Settles>(
+    links: &mut Links<HeldBack<L>>,
+    engine: &mut Engine<K>,
+    moment: u64,
+) -> Result<(), EngineError> {
+    stretch_behind(links, engine, moment, moment)
 }

@@ -18,9 +18,9 @@ returns-clause-turn g c =
       moved = c.in_ok-moved.moved;
       counted = c.serve_all.ensures.same ∙ c.accept-came.ensures.counted;
       accepts = c.accept-came.ensures.accepts;
-      serves = subst (λ (ys : List Wire). ServesAll g.K.Keep c.args.moment c.in_ok-moved.moved (server c.accept-came.new.engine c.accept-came.new.lines.items) (server c.serve_all.new.engine ys))
+      serves = subst (λ (ys : List Wire). ServesAll g.K.Keep c.args.pace c.args.moment c.in_ok-moved.moved (server c.accept-came.new.engine c.accept-came.new.lines.items) (server c.serve_all.new.engine ys))
           (sym (whole_again _ _ (drop (length c.serve_all.new.lines) c.accept-came.new.lines.items) len))
-          (subst (λ (xs : List Wire). ServesAll g.K.Keep c.args.moment c.in_ok-moved.moved (server c.accept-came.new.engine xs) (server c.serve_all.new.engine c.serve_all.new.lines))
+          (subst (λ (xs : List Wire). ServesAll g.K.Keep c.args.pace c.args.moment c.in_ok-moved.moved (server c.accept-came.new.engine xs) (server c.serve_all.new.engine c.serve_all.new.lines))
           c.deref_mut.ensures.value c.in_ok-moved.ensures.serves);
       busy_is = refl;
     })
@@ -34,8 +34,8 @@ returns-in_err-moved-clause-breaks g c =
       accepted = server c.accept-came.new.engine c.accept-came.new.lines.items;
       counted = c.serve_all.ensures.same ∙ c.accept-came.ensures.counted;
       accepts = c.accept-came.ensures.accepts;
-      breaks = subst (λ (ys : List Wire). BreaksAll g.K.Keep c.args.moment c.in_err-moved.field-0.0 (server c.accept-came.new.engine c.accept-came.new.lines.items) (server c.serve_all.new.engine ys))
+      breaks = subst (λ (ys : List Wire). BreaksAll g.K.Keep c.args.pace c.args.moment c.in_err-moved.field-0.0 (server c.accept-came.new.engine c.accept-came.new.lines.items) (server c.serve_all.new.engine ys))
           (sym (whole_again _ _ (drop (length c.serve_all.new.lines) c.accept-came.new.lines.items) len))
-          (subst (λ (xs : List Wire). BreaksAll g.K.Keep c.args.moment c.in_err-moved.field-0.0 (server c.accept-came.new.engine xs) (server c.serve_all.new.engine c.serve_all.new.lines))
+          (subst (λ (xs : List Wire). BreaksAll g.K.Keep c.args.pace c.args.moment c.in_err-moved.field-0.0 (server c.accept-came.new.engine xs) (server c.serve_all.new.engine c.serve_all.new.lines))
           c.deref_mut.ensures.value c.in_err-moved.ensures.breaks);
     })

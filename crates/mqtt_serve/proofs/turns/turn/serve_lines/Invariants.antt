@@ -5,6 +5,6 @@ use Rattle.mqtt_serve.proofs.turns.turn.serve_lines.Given as goal
 abbrev pub invariant-loop-place : goal.invariant-loop-place
 invariant-loop-place g l = record {
   len : length l.lines ≡ length l.fn.lines;
-  serves : ServesBelow g.K.Keep l.fn.moment l.place l.busy (server l.fn.engine l.fn.lines) (server l.engine l.lines);
+  serves : ServesBelow g.K.Keep l.fn.pace l.fn.moment l.place l.busy (server l.fn.engine l.fn.lines) (server l.engine l.lines);
   same : g.L.Link.calls l.link ≡ g.L.Link.calls l.fn.link;
 }

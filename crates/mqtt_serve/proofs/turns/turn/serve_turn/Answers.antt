@@ -1,5 +1,6 @@
 use Rattle.std.proofs.Common.{◌≡◌, ◌++◌, ℕ, Err, List, length, take, drop, rules, refl, ap, sym, subst, ◌∙◌}
 use Rattle.std.proofs.Math.Seq.{take-append_seam}
+use Rattle.mqtt_serve.specs.declared.turns.turn.Pace.TheVariants.{Full}
 use Rattle.mqtt_serve.specs.turns.Breaks.{BreaksAll}
 use Rattle.mqtt_serve.specs.turns.Turns.{server, without_closed, ServesAll}
 use Rattle.mqtt_serve.specs.turns.Wires.{Wire}
@@ -20,7 +21,7 @@ returns-clause-turn g c =
         moved = c.in_ok-moved.moved;
         served = server c.serve_all.new.engine c.serve_all.new.lines;
         accepts = c.accept-came.ensures.accepts;
-        serves = subst (λ (xs : List Wire). ServesAll g.K.Keep c.args.moment c.in_ok-moved.moved (server c.accept-came.new.engine xs) (server c.serve_all.new.engine c.serve_all.new.lines))
+        serves = subst (λ (xs : List Wire). ServesAll g.K.Keep Full c.args.moment c.in_ok-moved.moved (server c.accept-came.new.engine xs) (server c.serve_all.new.engine c.serve_all.new.lines))
             c.deref_mut.ensures.value c.in_ok-moved.ensures.serves;
         drops = ap (server c.serve_all.new.engine) (c.drop_closed.ensures.drops ∙ ap without_closed (whole_again _ _ _ len));
         busy_is = refl;
@@ -36,8 +37,8 @@ returns-in_err-moved-clause-breaks g c =
       accepted = server c.accept-came.new.engine c.accept-came.new.lines.items;
       counted = c.serve_all.ensures.same ∙ c.accept-came.ensures.counted;
       accepts = c.accept-came.ensures.accepts;
-      breaks = subst (λ (ys : List Wire). BreaksAll g.K.Keep c.args.moment c.in_err-moved.field-0.0 (server c.accept-came.new.engine c.accept-came.new.lines.items) (server c.serve_all.new.engine ys))
+      breaks = subst (λ (ys : List Wire). BreaksAll g.K.Keep Full c.args.moment c.in_err-moved.field-0.0 (server c.accept-came.new.engine c.accept-came.new.lines.items) (server c.serve_all.new.engine ys))
           (sym (whole_again _ _ (drop (length c.serve_all.new.lines) c.accept-came.new.lines.items) len))
-          (subst (λ (xs : List Wire). BreaksAll g.K.Keep c.args.moment c.in_err-moved.field-0.0 (server c.accept-came.new.engine xs) (server c.serve_all.new.engine c.serve_all.new.lines))
+          (subst (λ (xs : List Wire). BreaksAll g.K.Keep Full c.args.moment c.in_err-moved.field-0.0 (server c.accept-came.new.engine xs) (server c.serve_all.new.engine c.serve_all.new.lines))
           c.deref_mut.ensures.value c.in_err-moved.ensures.breaks);
     })

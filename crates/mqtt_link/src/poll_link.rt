@@ -1,7 +1,8 @@
 //! Sockets that a turn may wait on, all at once, and of which it asks those alone that may be ready (MQTT 5.0, 4.2).
+use crate::link::{Got, Link};
+use crate::sockets::got;
 use mio::net::{TcpListener, TcpStream};
 use mio::{Events, Interest, Poll, Token};
-use mqtt_link::{Got, Link, got};
 use std::alloc::Global;
 use std::io;
 use std::io::{ErrorKind, Read, Write};
@@ -34,7 +35,7 @@ struct Told {
 
 /// A connection. Once a call would have waited, none is made until the kernel tells of its token again.
 #[derive(Drop)]
-pub(crate) struct Socket {
+pub struct Socket {
     stream: TcpStream,
     address: SocketAddr,
     token: usize,
@@ -46,7 +47,7 @@ pub(crate) struct Socket {
 
 /// A listening socket and its connections, registered with the kernel.
 #[derive(Drop)]
-pub(crate) struct PollLink {
+pub struct PollLink {
     listener: TcpListener,
     poll: Poll,
     events: Events,
@@ -195,6 +196,10 @@ impl Link for PollLink {
         Some(peer.address)
     }
 
+    fn may_give(&self, peer: &Socket) -> bool {
+        self.is_blind || peer.read_at != Some(self.told_of(peer).to_read)
+    }
+
     /// Waits until a socket changes or the time is up; not at all where it is hurried. A wait that fails is none. While
     /// no socket changes the clock has its turns in ever longer steps, up to 80 ms.
     fn wait(&mut self) {
@@ -213,10 +218,10 @@ impl Link for PollLink {
     }
 
     fn read(&mut self, peer: &mut Socket, buffer: &mut [u8]) -> Got<usize> {
-        let told = self.told_of(peer).to_read;
-        if peer.read_at == Some(told) && !self.is_blind {
+        if !self.may_give(peer) {
             return Got::Nothing;
         }
+        let told = self.told_of(peer).to_read;
         let count = peer.stream.read(buffer);
         peer.read_at = if would_wait(&count) { Some(told) } else { None };
         let given = got(count);
