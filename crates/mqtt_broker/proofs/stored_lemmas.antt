@@ -21,6 +21,7 @@ pub mod ReadRows
 pub mod Filled
 pub mod Reading
 pub mod Resting
+pub mod Turns
 pub mod Pumps
 pub mod Answering
 pub mod Over
@@ -28,4 +29,3 @@ pub mod Identifiers
 pub mod Begun
 pub mod Settled
 pub mod Holders
-pub mod Empty

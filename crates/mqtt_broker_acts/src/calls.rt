@@ -18,6 +18,6 @@ pub use self::calling::input;
 pub use self::first::first_at;
 pub use self::laws::{limits_stay_kept, sound_brokers_are_ready, sound_brokers_stay_sound};
 pub use self::losing::lost_at;
-pub use self::pumping::pump_at;
+pub use self::pumping::send_at;
 pub use self::refusing::fault_at;
 pub use self::ticking::tick_at;

@@ -1,6 +1,7 @@
 -- What may be looked at of a broker doesn't depend on what its waiting copies say.
-use Rattle.std.proofs.Common.{◌≡◌, ℕ, Bool, true, false, cond, List, [], ◌∷◌, map, nat_eq, length, Option, Some, None, refl, sym, ap, ◌∙◌}
-use Rattle.std.specs.Prelude.{bytes_eq, find, option_map}
+use Rattle.std.proofs.Common.{◌≡◌, ℕ, Bool, true, false, ◌&&◌, not, cond, List, [], ◌∷◌, map, nat_eq, length, Option, Some, None, refl, sym, ap, ◌∙◌}
+use Rattle.std.specs.Prelude.{IfSome, bytes_eq, find, option_map}
+use Rattle.std.proofs.lemmas.Bool.{eqb-true}
 use Rattle.std.proofs.lemmas.List.{length-map}
 use Rattle.mqtt_records.specs.messages.Filling.{Fillings, filled_row}
 use Rattle.mqtt_records.specs.lists.Order.{row_at}
@@ -11,7 +12,7 @@ use Rattle.mqtt_rules.specs.declared.step.Capacity.{Capacity}
 use Rattle.mqtt_rules.specs.step.State.{Broker, session_named}
 use Rattle.mqtt_rules.specs.step.Step.{can_link}
 use Rattle.mqtt_rules.specs.filling.Filling.{filled, filled_session}
-use Rattle.mqtt_broker.specs.engine.Looks.{copies_on, queue_on_line}
+use Rattle.mqtt_broker.specs.engine.Looks.{copies_on, has_none, queue_on_line}
 
 -- how many copies stand in a queue, if the session is there
 abbrev pub queue_length : Option Session → Option ℕ
@@ -70,3 +71,25 @@ publications_same fillings some whole is = ap (λ (b : Broker). b.records.public
 -- and links a further line or not
 pub links_same : (limits : Capacity) (fillings : Fillings) (some whole : Broker) → filled fillings some ≡ whole → can_link limits some ≡ can_link limits whole
 links_same limits fillings some whole is = ap (can_link limits) is
+
+-- ---- a line whose session has no copies
+
+both_true : (s t : Bool) → s && t ≡ true → (s ≡ true) × (t ≡ true)
+both_true true t h = (refl, h)
+both_true false t h = absurd cc
+
+runs_if : (t : Bool) → not t ≡ true → t ≡ false
+runs_if true h = absurd cc
+runs_if false h = refl
+
+-- where that is said of a running engine there is none
+pub none_held : (line : ℕ) (b : Broker) (stopped : Bool) → has_none (queue_on_line line b) && not stopped ≡ true → IfSome (queue_on_line line b) (λ copies. copies ≡ 0)
+none_held line b stopped said = by (queue_on_line line b) (both_true (has_none (queue_on_line line b)) (not stopped) said).0
+  where
+    by : (o : Option ℕ) → has_none o ≡ true → IfSome o (λ copies. copies ≡ 0)
+    by None h = absurd cc
+    by (Some copies) h = eqb-true copies 0 h
+
+-- and the engine runs
+pub runs_held : (line : ℕ) (b : Broker) (stopped : Bool) → has_none (queue_on_line line b) && not stopped ≡ true → stopped ≡ false
+runs_held line b stopped said = runs_if stopped (both_true (has_none (queue_on_line line b)) (not stopped) said).1

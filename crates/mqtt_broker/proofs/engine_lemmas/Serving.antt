@@ -80,6 +80,15 @@ module _ {K : Type 0} (g : Ghosts K) (now : ℕ) (old : Running K) (running : ol
 pub rested_lines : {K : Type 0} (now : ℕ) (old new : Running K) (held : List HeldLine) → new ≡ record old { broker = at_moment now old.broker } → IsOfLines held old.broker → IsOfLines held new.broker
 rested_lines now old new held is h = subst (λ (b : Broker). IsOfLines held b) (sym (ap (λ (r : Running _). r.broker) is)) (of_lines_moment now held old.broker h)
 
+-- a call that tells nothing leaves what lines hold
+pub told_served : {K : Type 0} (g : Ghosts K) (now : ℕ) (call : Call) (old new : Running K) (held : List HeldLine) (out : Outcome) → Tells nothing_told out → Called g now call old (Ok out) new
+    → Served g now call (serving old held) (Ok out) (serving new held)
+told_served g now call old new held out told called = record {
+  called = called;
+  held = sym (ap (λ closed. without_closed closed held) told.closed ∙ none_ended held);
+  kept = tt;
+}
+
 -- ---- any other call
 
 -- if the lines stay the bytes that they hold are theirs still

@@ -1,6 +1,6 @@
 -- What needs no act: a line is linked, a turn of sending without copies, and a line that isn't linked.
 use Rattle.std.proofs.Common.{◌≡◌, ℕ, suc, Bool, true, false, cond, List, [], ◌∷◌, length, map, Option, Some, refl, ap, sym, ◌∙◌}
-use Rattle.std.specs.Prelude.{None, option_map}
+use Rattle.std.specs.Prelude.{None, IfSome, option_map}
 use Rattle.mqtt_flow.specs.declared.outbound.entry.Entry.{Entry}
 use Rattle.mqtt_flow.specs.declared.outbound.entry.Way.{Way}
 use Rattle.mqtt_flow.specs.outbound.Outbound.{pump}
@@ -83,7 +83,7 @@ answered_none limits now call b new out none last is tells = record {
   };
 }
 
--- ---- a turn of sending for a session without copies
+-- ---- a turn of sending without copies
 
 none_left : {X : Type 0} (xs : List X) → length xs ≡ 0 → xs ≡ []
 none_left [] e = refl
@@ -97,24 +97,24 @@ nothing_pumped l b s none =
     ap (all_turn_deeds b.now l.number s)
     (no_turns (way_of l b.now) (sized (size_at (fitted l b.now (told_on l.number b.tellings) s.queue)) l.went) s.queue none)
 
--- it has no deeds
-no_copies : (now line : ℕ) (b : Broker) → queue_on_line line b ≡ Some 0 → with_line (line_at line b) (λ l. on_pump l l.session) (at_moment now b) ≡ []
+-- it has no deeds; nor has one on a line without a session
+no_copies : (now line : ℕ) (b : Broker) → IfSome (queue_on_line line b) (λ copies. copies ≡ 0) → with_line (line_at line b) (λ l. on_pump l l.session) (at_moment now b) ≡ []
 no_copies now line b = by (line_at line b)
   where
-    has : (l : Line) (o : Option Session) → option_map (λ (s : Session). length s.queue) o ≡ Some 0 → with_session o (λ s. always (pump_deeds l (at_moment now b) s)) (at_moment now b) ≡ []
+    has : (l : Line) (o : Option Session) → IfSome (option_map (λ (s : Session). length s.queue) o) (λ copies. copies ≡ 0) → with_session o (λ s. always (pump_deeds l (at_moment now b) s)) (at_moment now b) ≡ []
     has l None e = refl
-    has l (Some s) e = let zero : length s.queue ≡ 0 = cc in nothing_pumped l (at_moment now b) s (none_left s.queue zero)
+    has l (Some s) e = nothing_pumped l (at_moment now b) s (none_left s.queue e)
 
-    on : (l : Line) (o : Option ℕ) → copies_for o b ≡ Some 0 → on_pump l o (at_moment now b) ≡ []
+    on : (l : Line) (o : Option ℕ) → IfSome (copies_for o b) (λ copies. copies ≡ 0) → on_pump l o (at_moment now b) ≡ []
     on l None e = refl
     on l (Some birth) e = has l (session_at birth b.records) e
 
-    by : (o : Option Line) → copies_on (option_map (λ (l : Line). l.session) o) b ≡ Some 0 → with_line o (λ l. on_pump l l.session) (at_moment now b) ≡ []
+    by : (o : Option Line) → IfSome (copies_on (option_map (λ (l : Line). l.session) o) b) (λ copies. copies ≡ 0) → with_line o (λ l. on_pump l l.session) (at_moment now b) ≡ []
     by None e = refl
     by (Some l) e = on l l.session e
 
 -- so it is a step that does nothing but that time goes on
-pub pumped_nothing : (limits : Capacity) (now line : ℕ) (b : Broker) (out : Outcome) → queue_on_line line b ≡ Some 0 → Tells nothing_told out → IsAnswered limits b now (Pump line) out (at_moment now b)
+pub pumped_nothing : (limits : Capacity) (now line : ℕ) (b : Broker) (out : Outcome) → IfSome (queue_on_line line b) (λ copies. copies ≡ 0) → Tells nothing_told out → IsAnswered limits b now (Pump line) out (at_moment now b)
 pumped_nothing limits now line b out none tells = answered_none limits now (Pump line) b (at_moment now b) out (no_copies now line b none) refl refl tells
 
 -- ---- a call on a line that isn't linked

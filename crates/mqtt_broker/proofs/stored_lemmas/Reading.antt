@@ -2,7 +2,6 @@
 use Rattle.std.proofs.Common.{◌≡◌, ◌≢◌, ◌⊎◌, ◌≤◌, ℕ, Bool, true, false, List, length, Option, Some, None, arith, refl, ap, sym, subst, ◌∙◌, inl, inr}
 use Rattle.std.specs.Prelude.{Result, Ok, Err, IfOk, OnErr, option_map}
 use Rattle.mqtt_base.specs.declared.limits.TheConstants.{PUMP_LIMIT}
-use Rattle.mqtt_records.specs.messages.Filling.{Fillings}
 use Rattle.mqtt_keep.specs.declared.keeping.keep.Keep.{Ghosts}
 use Rattle.mqtt_keep.specs.declared.keeping.keep.KeepError.{KeepError}
 use Rattle.mqtt_keep.specs.declared.keeping.keep.KeepError.TheVariants as keeps
@@ -10,13 +9,12 @@ use Rattle.mqtt_records.specs.declared.state.records.Records.{Records}
 use Rattle.mqtt_records.specs.state.Telling.{AreTold}
 use Rattle.mqtt_rules.specs.declared.step.Capacity.{Capacity}
 use Rattle.mqtt_rules.specs.step.Lines.{session_on}
-use Rattle.mqtt_rules.specs.step.State.{Broker, Line, MemberChoice, line_at}
-use Rattle.mqtt_rules.specs.step.Step.{Call, Pump, at_moment, told}
+use Rattle.mqtt_rules.specs.step.State.{Broker, Line, line_at}
+use Rattle.mqtt_rules.specs.step.Step.{Call}
 use Rattle.mqtt_rules.specs.alike.Alike.{AlikeBrokers}
-use Rattle.mqtt_rules.specs.filling.Filling.{AreFilledBy, filled}
-use Rattle.mqtt_rules.specs.filling.Pumped.{birth_on, filled_at, sent_places}
+use Rattle.mqtt_rules.specs.filling.Filling.{filled}
+use Rattle.mqtt_rules.specs.filling.Pumped.{birth_on, sent_places}
 use Rattle.mqtt_rules.proofs.filling_lemmas.FewSent.{few_sent}
-use Rattle.mqtt_rules.proofs.filling_lemmas.Fetching.{filled_pump_tells}
 use Rattle.mqtt_broker_looks.specs.at_hand.Hand.{Hand}
 use Rattle.mqtt_broker_looks.specs.at_hand.Reading.{AskedAtMost}
 use Rattle.mqtt_broker_step.specs.declared.call.EngineError.{EngineError}
@@ -35,22 +33,6 @@ linked_birth line birth b on = by (line_at line b) on
     by : (o : Option Line) → option_map (λ (l : Line). l.session) o ≡ Some (Some birth) → birth_on o ≡ Some birth
     by None h = absurd cc
     by (Some l) h = let same : l.session ≡ Some birth = cc in same
-
--- no birth is on a line without a session
-unlinked_birth : (line : ℕ) (b : Broker) → session_on line b ≡ Some None → birth_on (line_at line b) ≡ None
-unlinked_birth line b on = by (line_at line b) on
-  where
-    by : (o : Option Line) → option_map (λ (l : Line). l.session) o ≡ Some None → birth_on o ≡ None
-    by None h = absurd cc
-    by (Some l) h = let same : l.session ≡ None = cc in same
-
--- a pump on a line without a session tells the same of any rows
-pub idle_tells : (fillings : Fillings) (limits : Capacity) (choice : MemberChoice) (now line : ℕ) (some whole : Broker)
-    → AlikeBrokers some whole → AreFilledBy fillings whole.records → session_on line some ≡ Some None
-    → told limits choice now (Pump line) some ≡ told limits choice now (Pump line) whole
-idle_tells fillings limits choice now line some whole alike says on =
-    ap (λ (o : Option ℕ). told limits choice now (Pump line) (filled_at fillings (sent_places line (at_moment now some)) o some)) (sym (unlinked_birth line some on))
-    ∙ filled_pump_tells fillings now line limits choice some whole alike says
 
 -- ---- how often the store is asked
 

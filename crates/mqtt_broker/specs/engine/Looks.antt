@@ -1,5 +1,5 @@
 -- How many copies there are for the session that is connected on a line (MQTT 5.0, 4.1, 4.6).
-use Rattle.std.specs.Prelude.{ℕ, length, Option, Some, None, option_map}
+use Rattle.std.specs.Prelude.{ℕ, Bool, false, nat_eq, length, Option, Some, None, option_map}
 use Rattle.mqtt_rules.specs.step.Lines.{session_on}
 use Rattle.mqtt_rules.specs.step.State.{Broker, session_at}
 
@@ -16,3 +16,8 @@ copies_on (Some session) b = copies_for session b
 -- of the line with a number: None if it isn't linked, or no session is connected on it
 abbrev pub queue_on_line : ℕ → Broker → Option ℕ
 queue_on_line line b = copies_on (session_on line b) b
+
+-- a session is there, and has no copies
+abbrev pub has_none : Option ℕ → Bool
+has_none None = false
+has_none (Some copies) = nat_eq copies 0

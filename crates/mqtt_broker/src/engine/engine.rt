@@ -123,10 +123,13 @@ impl<K: Keep> Engine<K> {
             (K.read_so_far self.new.running.keep) }
         ensures unlinked { IsPassedOver line self.old result }
     {
+        if self.inner.has_no_copies(line) {
+            return Ok(self.inner.pump_nothing(line, moment));
+        }
         if !self.framers.has(line) {
             return pass_over(&mut self.inner, moment);
         }
-        let answer = self.inner.pump(line, moment);
+        let answer = self.inner.send_waiting(line, moment);
         end_closed(&mut self.framers, &answer);
         answer
     }

@@ -15,7 +15,6 @@ ghost use Rattle.mqtt_broker.specs.stored.Calling.{Called};
 
 use crate::stored::engine::Engine;
 use crate::stored::outcome::Outcome;
-use crate::stored::pumping::pump_once;
 use mqtt_base::Reason;
 use mqtt_broker_acts::calls::{fault_at, first_at, input, lost_at, tick_at};
 use mqtt_broker_acts::clock::quiet_before;
@@ -226,42 +225,15 @@ impl<K: Keep> Engine<K> {
         }
     }
 
-    /// A turn of sending on a line without a session: nothing is sent, and nothing read.
-    fn pump_idle(&mut self, line: u64, moment: u64) -> Result<Outcome, EngineError>
-        requires running { self.old.stopped ≡ false }
-        requires linked { session_on line self.old.broker ≡ Some None }
-        ensures called { Called K.Keep moment (Pump line) self.old result self.new }
-        ensures reads { K.read_so_far self.new.keep ≡ K.read_so_far self.old.keep }
-    {
-        let mut again = false;
-        let (alloc, step) = (self.parts.alloc, &mut self.parts.step);
-        let done = pump_once(alloc, step, line, moment, &mut again);
-        self.parts.finish(done, again)
-    }
-
-    /// A turn of sending on a line with a session.
-    fn pump_on(&mut self, line: u64, birth: u64, moment: u64) -> Result<Outcome, EngineError>
-        requires running { self.old.stopped ≡ false }
-        requires linked { session_on line self.old.broker ≡ Some (Some birth) }
-        ensures called { Called K.Keep moment (Pump line) self.old result self.new }
-        ensures reads { AskedAtMost PUMP_LIMIT (K.read_so_far self.old.keep) (K.read_so_far self.new.keep) }
-    {
-        if self.has_no_copies(line) {
-            return self.pump_nothing(line, moment);
-        }
-        self.parts.pump_filled(line, birth, moment)
-    }
-
     /// A turn of sending: what waits for the session of a line goes out, up to 16 PUBLISH (4.6, 4.9); `again` says whether
     /// more may be there. The store is asked for contents at most 16 times. Refusals are those of `input`.
-    pub fn pump(&mut self, line: u64, moment: u64) -> Result<Outcome, EngineError>
+    pub fn send_waiting(&mut self, line: u64, moment: u64) -> Result<Outcome, EngineError>
         ensures called { Called K.Keep moment (Pump line) self.old result self.new }
         ensures reads { AskedAtMost PUMP_LIMIT (K.read_so_far self.old.keep) (K.read_so_far self.new.keep) }
     {
         match self.session_on(line)? {
-            Some(Some(birth)) => self.pump_on(line, birth, moment),
-            Some(None) => self.pump_idle(line, moment),
-            None => self.skip(line, moment),
+            Some(Some(birth)) => self.parts.fetch_and_send(line, birth, moment),
+            Some(None) | None => Ok(self.pump_nothing(line, moment)),
         }
     }
 

@@ -1,6 +1,6 @@
 //! How many copies there are for the session on a line (MQTT 5.0, 4.1, 4.6).
 ghost use Rattle.std.specs.Prelude.{◌≡◌};
-ghost use Rattle.mqtt_broker.specs.engine.Looks.{copies_for, queue_on_line};
+ghost use Rattle.mqtt_broker.specs.engine.Looks.{copies_for, has_none, queue_on_line};
 
 use mqtt_broker_step::Step;
 
@@ -25,5 +25,15 @@ pub(crate) fn copies_on(step: &Step, line: u64) -> Option<usize>
     match step.line(line) {
         Some(state) => copies_for(step, state.session()),
         None => None,
+    }
+}
+
+/// Whether a session is there that has no copies. Takes no memory.
+pub(crate) fn has_none(copies: Option<usize>) -> bool
+    ensures { result ≡ has_none copies }
+{
+    match copies {
+        Some(count) => count == 0,
+        None => false,
     }
 }

@@ -1,5 +1,5 @@
 //! The engine: a broker over a store that has what its waiting copies say, one call after the other (MQTT 5.0, 3.3, 4.1).
-ghost use Rattle.std.specs.Prelude.{◌≡◌, None, Some, false, true, is_some, option_copied};
+ghost use Rattle.std.specs.Prelude.{◌≡◌, None, Some, Ok, false, ◌&&◌, not, is_some, IfSome, option_copied};
 ghost use Rattle.mqtt_rules.specs.step.Routing.{subscribers};
 ghost use Rattle.mqtt_rules.specs.step.State.{Broker, line_at};
 ghost use Rattle.mqtt_rules.specs.step.Step.{BrokerStep, Call, NewLine, Pump, at_moment, copy_of, nothing_told};
@@ -8,11 +8,11 @@ ghost use Rattle.mqtt_rules.specs.filling.Filling.{filled};
 ghost use Rattle.mqtt_broker_step.specs.Doing.{next_line};
 ghost use Rattle.mqtt_broker_step.specs.Stepping.{at_rest};
 ghost use Rattle.mqtt_broker_queue.specs.subscribers.Indexing.{Serves};
-ghost use Rattle.mqtt_broker.specs.engine.Looks.{queue_on_line};
+ghost use Rattle.mqtt_broker.specs.engine.Looks.{has_none, queue_on_line};
 ghost use Rattle.mqtt_broker.specs.stored.Calling.{Called, IsOn, Tells};
 ghost use Rattle.mqtt_broker.specs.stored.Finishing.{HoldsWhole};
 
-use crate::stored::copies::copies_on;
+use crate::stored::copies::{copies_on, has_none};
 use crate::stored::holding::copy_of;
 use crate::stored::outcome::{Outcome, nothing};
 use crate::stored::parts::EngineParts;
@@ -155,24 +155,25 @@ impl<K: Keep> Engine<K> {
         Ok(nothing(self.parts.alloc))
     }
 
-    /// A turn of sending on a line whose session has no copies does nothing but that the moment is the greatest handed in. Takes no
-    /// memory.
-    pub(crate) fn pump_nothing(&mut self, line: u64, moment: u64) -> Result<Outcome, EngineError>
+    /// A turn of sending on a line does nothing but that the moment is the greatest handed in, if its session, where one is
+    /// connected on it, has no copies. Takes no memory.
+    pub(crate) fn pump_nothing(&mut self, line: u64, moment: u64) -> Outcome
         requires running { self.old.stopped ≡ false }
-        requires none { queue_on_line line self.old.broker ≡ Some 0 }
-        ensures called { Called K.Keep moment (Pump line) self.old result self.new }
-        ensures keep { self.new.keep ≡ self.old.keep }
+        requires none { IfSome (queue_on_line line self.old.broker) (λ copies. copies ≡ 0) }
+        ensures told { Tells nothing_told result }
+        ensures called { Called K.Keep moment (Pump line) self.old (Ok result) self.new }
+        ensures ok { self.new ≡ record self.old { broker = at_moment moment self.old.broker } }
     {
-        self.parts.step.rest_at(moment);
-        Ok(nothing(self.parts.alloc))
+        let parts = &mut self.parts;
+        parts.step.rest_at(moment);
+        nothing(parts.alloc)
     }
 
-    /// Whether a session without copies is connected on a line. Takes no memory.
-    #[tactic(auto, using(crate::proofs::stored_lemmas::Empty::none_on))]
+    /// Whether the store has not failed, and a session without copies is connected on a line. Takes no memory.
     pub(crate) fn has_no_copies(&self, line: u64) -> bool
-        ensures { result ≡ true → queue_on_line line self.now.broker ≡ Some 0 }
+        ensures { result ≡ has_none (queue_on_line line self.now.broker) && not self.now.stopped }
     {
-        copies_on(&self.parts.step, line) == Some(0)
+        has_none(copies_on(&self.parts.step, line)) && !self.parts.stopped
     }
 
     /// The tables, to be looked at: no step is under way on them, and filled with what the store has they are the broker's.

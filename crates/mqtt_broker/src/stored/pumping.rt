@@ -5,16 +5,17 @@ ghost use Rattle.mqtt_records.specs.messages.Filling.{Fillings};
 ghost use Rattle.mqtt_records.specs.declared.state.records.Records.{Records};
 ghost use Rattle.mqtt_rules.specs.step.Contents.{HasLawfulContents};
 ghost use Rattle.mqtt_rules.specs.step.Lines.{session_on};
-ghost use Rattle.mqtt_rules.specs.step.Step.{Pump};
+ghost use Rattle.mqtt_rules.specs.step.Step.{Pump, at_moment};
 ghost use Rattle.mqtt_rules.specs.alike.Alike.{AlikeBrokers, AlikeRecords};
 ghost use Rattle.mqtt_rules.specs.alike.Slim.{slim_broker};
 ghost use Rattle.mqtt_rules.specs.filling.Entered.{AreSlimBut, places_of};
 ghost use Rattle.mqtt_rules.specs.filling.Filling.{AreFilledBy};
+ghost use Rattle.mqtt_rules.specs.filling.Pumped.{sent_places};
 ghost use Rattle.mqtt_broker_looks.specs.at_hand.Hand.{contents_at};
 ghost use Rattle.mqtt_broker_looks.specs.at_hand.Reading.{AskedAtMost};
 ghost use Rattle.mqtt_broker_step.specs.Stepping.{at_rest};
-ghost use Rattle.mqtt_broker_acts.specs.calls.Doing.{IsCalled};
-ghost use Rattle.mqtt_broker_acts.specs.calls.Ready.{IsReady};
+ghost use Rattle.mqtt_broker_queue.specs.queues.Queues.{HasKeptOrders};
+ghost use Rattle.mqtt_broker_queue.specs.queues.Turning.{line_turns};
 ghost use Rattle.mqtt_broker.specs.stored.Calling.{Called};
 ghost use Rattle.mqtt_broker.specs.stored.Finishing.{IsAtRest};
 ghost use Rattle.mqtt_broker.specs.stored.Pumping.{AreFilledAt};
@@ -23,9 +24,10 @@ ghost use Rattle.mqtt_broker.specs.stored.Viewing.{viewed};
 use crate::stored::finishing::has_failed;
 use crate::stored::outcome::Outcome;
 use crate::stored::parts::EngineParts;
-use mqtt_broker_acts::calls::pump_at;
-use mqtt_broker_queue::queues::sent_places;
+use mqtt_broker_acts::calls::send_at;
+use mqtt_broker_queue::queues::{places_in, turns_at};
 use mqtt_broker_step::{EngineError, Step, StepFault};
+use mqtt_flow::Turn;
 use mqtt_keep::{Keep, KeepError};
 use mqtt_records::CopyContent;
 use std::alloc::Global;
@@ -53,26 +55,27 @@ fn places_of(alloc: Global, contents: &[CopyContent]) -> Result<Vec<u64>, StepFa
     Ok(places)
 }
 
-/// The step of a turn of sending, and whether more may be there.
-pub(crate) fn pump_once(
+/// What a pump on a line takes if it begins at a moment, and where the copies stand that it sends.
+fn look_up(
     alloc: Global,
-    step: &mut Step,
+    step: &Step,
     line: u64,
     moment: u64,
-    again: &mut bool,
-) -> Result<(), StepFault>
-    requires rest { step.old ≡ at_rest step.old.limits step.old.broker }
-    requires ready { IsReady step.old.limits step.old.broker }
-    ensures called { IsCalled moment (Pump line) again.new result step.new }
-    ensures start { step.new.start ≡ step.old.broker }
-    ensures limits { step.new.limits ≡ step.old.limits }
+) -> Result<(Vec<Turn>, Vec<u64>), EngineError>
+    requires { (birth : ℕ) → HasKeptOrders birth step.now.broker.records }
+    ensures turns { IfOk result (λ both. both.0.items
+        ≡ line_turns line (at_moment moment step.now.broker)) }
+    ensures places { IfOk result (λ both. both.1.items
+        ≡ sent_places line (at_moment moment step.now.broker)) }
+    ensures fault { IfErr result (λ error. error ≡ EngineError.Memory) }
 {
-    match pump_at(alloc, step, line, moment) {
-        Ok(more) => {
-            *again = more;
-            Ok(())
-        }
-        Err(fault) => Err(fault),
+    let turns = match turns_at(alloc, step, line, moment) {
+        Ok(turns) => turns,
+        Err(_) => return Err(EngineError::Memory),
+    };
+    match places_in(alloc, &turns) {
+        Ok(places) => Ok((turns, places)),
+        Err(_) => Err(EngineError::Memory),
     }
 }
 
@@ -101,7 +104,7 @@ impl<K: Keep> EngineParts<K> {
     /// A turn of sending on a line with a session. What the copies say that it will send is fetched, from hand or from the
     /// store; the step begins on rows that say it, and no row says it any more when the call ends. A store that tells what
     /// has not the bytes of its row has failed.
-    pub(crate) fn pump_filled(
+    pub(crate) fn fetch_and_send(
         &mut self,
         line: u64,
         birth: u64,
@@ -114,10 +117,7 @@ impl<K: Keep> EngineParts<K> {
         ensures rest { IsAtRest K.Keep self.new }
         ensures reads { AskedAtMost PUMP_LIMIT (K.read_so_far self.old.keep) (K.read_so_far self.new.keep) }
     {
-        let places = match sent_places(self.alloc, &self.step, line, moment) {
-            Ok(places) => places,
-            Err(_) => return Err(EngineError::Memory),
-        };
+        let (turns, places) = look_up(self.alloc, &self.step, line, moment)?;
         let contents = match self.hand.fetch(self.alloc, &mut self.keep, birth, &places) {
             Ok(contents) => contents,
             Err(error) => {
@@ -137,8 +137,9 @@ impl<K: Keep> EngineParts<K> {
             self.stopped = true;
             return Err(EngineError::Stopped);
         }
-        let mut again = false;
-        let done = pump_once(self.alloc, &mut self.step, line, moment, &mut again);
-        self.finish_filled(done, again, birth, &told)
+        match send_at(self.alloc, &mut self.step, line, turns, moment) {
+            Ok(again) => self.finish_filled(Ok(()), again, birth, &told),
+            Err(fault) => self.finish_filled(Err(fault), false, birth, &told),
+        }
     }
 }

@@ -4,7 +4,7 @@ ghost use Rattle.mqtt_routes.specs.routing.Subscriptions.{Subscriber};
 ghost use Rattle.mqtt_rules.specs.step.Contents.{IsTaken};
 ghost use Rattle.mqtt_rules.specs.step.Lines.{session_on};
 ghost use Rattle.mqtt_rules.specs.step.Routing.{subscribers};
-ghost use Rattle.mqtt_rules.specs.step.Step.{Input, deeds_of};
+ghost use Rattle.mqtt_rules.specs.step.Step.{Input};
 ghost use Rattle.mqtt_broker_step.specs.Stepping.{at_rest};
 ghost use Rattle.mqtt_broker_queue.specs.publications.Choosing.{DoesSome, LeavesSome};
 ghost use Rattle.mqtt_broker_acts.specs.calls.Doing.{IsCalled};
@@ -52,31 +52,6 @@ fn take<R: Router>(
     }
 }
 
-/// A packet comes on the line of a session: the line is heard (3.1.2.10), and the packet does what the rules have.
-fn hear<R: Router>(
-    alloc: Global,
-    router: &mut R,
-    step: &mut Step,
-    line: u64,
-    birth: u64,
-    packet: &Packet,
-) -> Result<(), StepFault>
-    requires serves { R.serves router.old (subscribers step.old.broker.records) }
-    requires client { HasClient line birth step.old.broker }
-    requires taken { IsTaken packet.now }
-    ensures ok { OnOk result (DoesSome (λ env. deeds_of env (Input line packet.now))
-        step.old step.new) }
-    ensures left { IfErr result (λ fault.
-        LeavesSome (λ env. deeds_of env (Input line packet.now)) fault step.old step.new) }
-    ensures serves { (sessions : List Subscriber) → R.serves router.old sessions
-        → R.serves router.new sessions }
-{
-    match step.hear(line) {
-        Ok(()) => take(alloc, router, step, line, birth, packet),
-        Err(fault) => Err(fault),
-    }
-}
-
 /// The step of a packet begins at a moment, in milliseconds, if none was under way, and does the deeds of its call:
 /// the line is heard, and the packet does what the rules have for the session that is connected on it, which has this
 /// birth (3.1.2.10, 3.3 to 3.14, 4.13). The packet has a spelling, and is no longer than a packet may be. `Memory` (1)
@@ -101,8 +76,7 @@ pub fn input<R: Router>(
     ensures serves { (sessions : List Subscriber) → R.serves router.old sessions
         → R.serves router.new sessions }
 {
-    match step.begin(moment) {
-        Ok(()) => hear(alloc, router, step, line, birth, packet),
-        Err(fault) => Err(fault),
-    }
+    step.begin(moment)?;
+    step.hear(line)?;
+    take(alloc, router, step, line, birth, packet)
 }
