@@ -6,6 +6,7 @@ use Rattle.mqtt_broker_step.specs.declared.call.EngineError.{EngineError}
 use Rattle.mqtt_broker.specs.engine.Serving.{Serving}
 use Rattle.mqtt_link.specs.Links.{and_then}
 use Rattle.mqtt_serve.specs.declared.turns.settling.TheConstants.{TURNS_TOGETHER}
+use Rattle.mqtt_serve.specs.declared.turns.turn.Pace.{Pace}
 use Rattle.mqtt_serve.specs.turns.Breaks.{BreaksOff}
 use Rattle.mqtt_serve.specs.turns.Settled.{IsStoredOrPutOff, OfTold, RunsSettledFor, RunsSettledUntil, RunsStretch, RunsStretchUntil, RunsTogether, RunsTogetherUntil, ServedTurn, StoresNothing, Stretches, no_stretch, not_begun, stretch_after, turn_more}
 use Rattle.mqtt_serve.specs.turns.Turns.{Hosting, hosting, pace_of, rested, server}
@@ -51,13 +52,13 @@ module _ {K : Type 0} {g : Ghosts K} where
   together_none = told_none (refl, not_begun)
 
   -- one more was had
-  pub together_more : {begin turns last next : ℕ} (now : ℕ) {busy : Bool} {told told_then told_now : Option (List ℕ)} {old h i : Hosting (Serving K)}
-      → RunsTogether g begin turns last true told told_then old h → told_now ≡ and_then told_then (now ∷ []) → next ≡ max last now
-      → ServedTurn g (pace_of last now) next busy h i → RunsTogether g begin (turns + 1) next busy told told_now old i
-  together_more {begin} {turns} {last} {next} now {busy} {told} {told_then} {told_now} {old} {h} {i} before read is turn =
+  pub together_more : {begin turns last next : ℕ} (now : ℕ) {pace : Pace} {busy : Bool} {told told_then told_now : Option (List ℕ)} {old h i : Hosting (Serving K)}
+      → RunsTogether g begin turns last true told told_then old h → told_now ≡ and_then told_then (now ∷ []) → next ≡ max last now → pace ≡ pace_of last now
+      → ServedTurn g pace next busy h i → RunsTogether g begin (turns + 1) next busy told told_now old i
+  together_more {begin} {turns} {last} {next} now {pace} {busy} {told} {told_then} {told_now} {old} {h} {i} before read is paced turn =
       rw is (told_more (now ∷ []) before read (λ r so. (
         length_more r (now ∷ []) turns 1 so.0 refl,
-        turn_more now so.1 (subst (λ n. ServedTurn g (pace_of last now) n busy h i) is turn),
+        turn_more now so.1 (subst (λ n. ServedTurn g (pace_of last now) n busy h i) is (subst (λ p. ServedTurn g p next busy h i) paced turn)),
       )))
 
   -- and something came or went in it
@@ -72,11 +73,11 @@ module _ {K : Type 0} {g : Ghosts K} where
   together_all before is = told_so before (λ r so. (so.0 ∙ is, so.1))
 
   -- the next broke off
-  pub together_until : {begin turns limit last next : ℕ} (now : ℕ) {error : EngineError} {told told_then told_now : Option (List ℕ)}
+  pub together_until : {begin turns limit last next : ℕ} (now : ℕ) {pace : Pace} {error : EngineError} {told told_then told_now : Option (List ℕ)}
       {old h i : Hosting (Serving K)} → RunsTogether g begin turns last true told told_then old h → turns < limit → limit ≤ TURNS_TOGETHER
-      → told_now ≡ and_then told_then (now ∷ []) → next ≡ max last now → BreaksOff g (pace_of last now) next error h i
+      → told_now ≡ and_then told_then (now ∷ []) → next ≡ max last now → pace ≡ pace_of last now → BreaksOff g pace next error h i
       → RunsTogetherUntil g begin limit error told told_now old i
-  together_until {begin} {turns} {limit} {last} {next} now {error} {told} {told_then} {told_now} {old} {h} {i} before within few read is breaks =
+  together_until {begin} {turns} {limit} {last} {next} now {pace} {error} {told} {told_then} {told_now} {old} {h} {i} before within few read is paced breaks =
       told_more (now ∷ []) before read (λ r so. (
         omega (arith, length_more r (now ∷ []) turns 1 so.0 refl, within),
         record {
@@ -87,7 +88,7 @@ module _ {K : Type 0} {g : Ghosts K} where
           read_is = refl;
           few = omega (arith, so.0, within, few);
           turns = so.1;
-          breaks = subst (λ n. BreaksOff g (pace_of last now) n error h i) is breaks;
+          breaks = subst (λ n. BreaksOff g (pace_of last now) n error h i) is (subst (λ p. BreaksOff g p next error h i) paced breaks);
         },
       ))
 

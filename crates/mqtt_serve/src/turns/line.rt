@@ -14,12 +14,7 @@ use mqtt_keep::Keep;
 use mqtt_link::Link;
 
 /// The connection at a place is passed over, if it may be. Whether it is.
-fn pass_over<L: Link>(
-    link: &L,
-    lines: &mut [Connection<L>],
-    place: usize,
-    pace: Pace,
-) -> bool
+fn pass_over<L: Link>(link: &L, lines: &mut [Connection<L>], place: usize, pace: Pace) -> bool
     requires place { place < length lines.old }
     ensures brisk { IsTrue result → pace ≡ Pace.Brisk }
     ensures rests { IsTrue result → MayRest place lines.old }

@@ -74,11 +74,7 @@ fn stir_if_at<L: Link, K: Keep>(
 }
 
 /// Each connection is stirred to whose session's queue a copy came.
-fn stir_each<L: Link, K: Keep>(
-    lines: &mut [Connection<L>],
-    engine: &Engine<K>,
-    reports: &[Report],
-)
+fn stir_each<L: Link, K: Keep>(lines: &mut [Connection<L>], engine: &Engine<K>, reports: &[Report])
     ensures same { lines.new ≡ lines.old }
 {
     for place in 0..lines.len() {

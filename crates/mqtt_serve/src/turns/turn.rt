@@ -118,7 +118,16 @@ fn serve_lines<L: Link, K: Keep, J: Journal>(
     let mut buffer = [0_u8; READ_LIMIT];
     let mut busy = false;
     for place in 0..lines.len() {
-        busy |= serve_at(link, lines, engine, place, pace, moment, &mut buffer, journal)?;
+        busy |= serve_at(
+            link,
+            lines,
+            engine,
+            place,
+            pace,
+            moment,
+            &mut buffer,
+            journal,
+        )?;
     }
     Ok(busy)
 }

@@ -1,4 +1,4 @@
-use Rattle.std.proofs.Common.{◌≡◌, Bool, false, List, Result, Ok, Err, IfOk, sym, subst}
+use Rattle.std.proofs.Common.{Bool, false, List, Result, Ok, Err, IfOk, refl, sym, subst}
 use Rattle.mqtt_broker_step.specs.declared.call.EngineError.{EngineError}
 use Rattle.mqtt_serve.specs.turns.Turns.{server, HasItsTurn, ServesLine, it_is_passed_over, it_is_served}
 use Rattle.mqtt_serve.specs.turns.Wires.{Wire}
@@ -12,7 +12,7 @@ ok_so P Q (Err error) so p = tt
 pub returns-then-pass_over-clause-serves : goal.returns-then-pass_over-clause-serves
 returns-then-pass_over-clause-serves g c =
     subst (λ (ws : List Wire). HasItsTurn g.K.Keep c.args.pace c.args.moment c.args.place false (server c.args.engine.now c.args.lines.now) (server c.args.engine.now ws))
-    (sym c.pass_over.ensures.same) (it_is_passed_over c.if-pass_over.ensures.brisk c.if-pass_over.ensures.rests)
+    (sym c.pass_over.ensures.same) (it_is_passed_over (c.if-pass_over.ensures.brisk refl) (c.if-pass_over.ensures.rests refl))
 
 pub returns-clause-serves : goal.returns-clause-serves
 returns-clause-serves g c =

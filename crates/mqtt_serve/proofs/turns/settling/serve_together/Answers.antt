@@ -7,11 +7,11 @@ loop-before-init g c = together_none
 
 pub loop-before-preserved : goal.loop-before-preserved
 loop-before-preserved g c =
-    together_on (search rules) (together_more c.now.result c.loop-before.invariant c.now.ensures (search rules) c.in_ok-busy.ensures.turn)
+    together_on (search rules) (together_more c.now-now.result c.loop-before.invariant c.now-now.ensures (search rules) c.pace_of-pace.ensures c.in_ok-busy.ensures.turn)
 
 pub returns-then-not-goes_on-clause-turns : goal.returns-then-not-goes_on-clause-turns
 returns-then-not-goes_on-clause-turns g c =
-    together_more c.now.result c.loop-before.invariant c.now.ensures (search rules) c.in_ok-busy.ensures.turn
+    together_more c.now-now.result c.loop-before.invariant c.now-now.ensures (search rules) c.pace_of-pace.ensures c.in_ok-busy.ensures.turn
 
 pub returns-clause-turns : goal.returns-clause-turns
 returns-clause-turns g c = together_all c.loop-before.invariant (omega arith)
@@ -19,4 +19,4 @@ returns-clause-turns g c = together_all c.loop-before.invariant (omega arith)
 pub returns-in_err-busy-clause-breaks : goal.returns-in_err-busy-clause-breaks
 returns-in_err-busy-clause-breaks g c =
     let is : c.from_residual.result ≡ Err c.in_err-busy.field-0.0 = search rules in
-    rw is (together_until c.now.result c.loop-before.invariant c.loop-before-test.true c.requires.few c.now.ensures (search rules) c.in_err-busy.ensures.breaks)
+    rw is (together_until c.now-now.result c.loop-before.invariant c.loop-before-test.true c.requires.few c.now-now.ensures (search rules) c.pace_of-pace.ensures c.in_err-busy.ensures.breaks)
