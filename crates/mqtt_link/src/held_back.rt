@@ -10,12 +10,12 @@ use std::net::SocketAddr;
 /// A connection, with what was written to it and is held back.
 #[derive(Drop)]
 pub struct HeldPeer<L: Link> {
-    peer: L::Peer,
-    held: Waiting,
     /// Whether not all that was let go last went out.
     is_stuck: bool,
     /// Whether it is left unread.
     is_unread: bool,
+    peer: L::Peer,
+    held: Waiting,
     /// How often it was read, or left unread instead, modulo 2^64.
     reads: u64,
     /// For how many bytes the last read of it had room.
@@ -57,6 +57,11 @@ impl<L: Link + Drop> HeldBack<L> {
     /// The link.
     pub fn link(&self) -> &L {
         &self.link
+    }
+
+    /// Whether something may have come on a connection, be it left unread or not.
+    pub fn has_come(&self, peer: &HeldPeer<L>) -> bool {
+        self.link.may_give(&peer.peer)
     }
 
     /// What is held back goes out, by one write, if anything is; what the connection didn't take is held on. False if the
@@ -125,10 +130,10 @@ impl<L: Link + Drop> Link for HeldBack<L> {
     fn accept(&mut self) -> Got<HeldPeer<L>> {
         match self.link.accept() {
             Got::Given(peer) => Got::Given(HeldPeer {
-                peer,
-                held: Waiting::new(self.alloc),
                 is_stuck: false,
                 is_unread: false,
+                peer,
+                held: Waiting::new(self.alloc),
                 reads: 0,
                 room: 0,
             }),
@@ -143,7 +148,7 @@ impl<L: Link + Drop> Link for HeldBack<L> {
     }
 
     fn may_give(&self, peer: &HeldPeer<L>) -> bool {
-        !peer.is_unread && self.link.may_give(&peer.peer)
+        !peer.is_unread && self.has_come(peer)
     }
 
     fn wait(&mut self) {

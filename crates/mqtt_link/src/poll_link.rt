@@ -24,25 +24,37 @@ const WAIT: u64 = 10;
 /// The most that it takes (ours). Each wait in which no socket changed lets the next take twice as long.
 const LONGEST_WAIT: u64 = 80;
 
-/// How often the kernel has told that connections under a token are ready, modulo 2^64.
+/// How often the kernel has told of connections under a token, modulo 2^64.
 #[derive(Clone, Copy)]
 struct Told {
-    /// To be read.
+    /// That one is to be read.
     to_read: u64,
-    /// To be written to.
+    /// That one is to be written to.
     to_write: u64,
+    /// That one failed or is closed.
+    over: u64,
 }
 
-/// A connection. Once a call would have waited, none is made until the kernel tells of its token again.
+/// What is told of a token before the kernel has told anything.
+const NEVER: Told = Told {
+    to_read: 0,
+    to_write: 0,
+    over: 0,
+};
+
+/// A connection. Once a call would have waited, or a read had room for more than came, none is made until the kernel tells of its
+/// token again.
 #[derive(Drop)]
 pub struct Socket {
-    stream: TcpStream,
-    address: SocketAddr,
     token: usize,
-    /// How often its token had been told when a read would have waited.
+    /// How often its token had been told when all was read that was there.
     read_at: Option<u64>,
     /// How often it had been told when a write would have waited.
     written_at: Option<u64>,
+    /// How often its token had been told to be over when it came.
+    over_at: u64,
+    stream: TcpStream,
+    address: SocketAddr,
 }
 
 /// A listening socket and its connections, registered with the kernel.
@@ -61,7 +73,7 @@ pub struct PollLink {
     has_looked: bool,
     /// The last look failed, so that any socket may be ready.
     is_blind: bool,
-    /// A connection has ended since the last wait, or something is to go out: what that brings for others is not to wait.
+    /// A connection has come or ended since the last wait, or something is to go out: what that brings is not to wait.
     is_hurried: bool,
     /// How long the next wait takes at most, in milliseconds.
     pause: u64,
@@ -86,11 +98,7 @@ impl PollLink {
         let mut listener = TcpListener::bind(net, address)?;
         let poll = Poll::new(net)?;
         let events = Events::with_capacity(alloc, EVENTS)?;
-        let never = Told {
-            to_read: 0,
-            to_write: 0,
-        };
-        let told = Vec::from_elem(alloc, never, TOKENS)?;
+        let told = Vec::from_elem(alloc, NEVER, TOKENS)?;
         poll.registry()
             .register(&mut listener, Token(LISTENER), Interest::READABLE)?;
         Ok(PollLink {
@@ -124,6 +132,9 @@ impl PollLink {
             if token == LISTENER {
                 self.may_come = true;
             } else if let Some(told) = self.told.get_mut(token) {
+                if is_over {
+                    told.over = told.over.wrapping_add(1);
+                }
                 if is_over || event.is_readable() {
                     told.to_read = told.to_read.wrapping_add(1);
                 }
@@ -134,14 +145,36 @@ impl PollLink {
         }
     }
 
-    /// How often a connection's token was told.
-    fn told_of(&self, peer: &Socket) -> Told {
-        match self.told.get(peer.token) {
+    /// How often a token was told.
+    fn told_of(&self, token: usize) -> Told {
+        match self.told.get(token) {
             Some(told) => *told,
-            None => Told {
-                to_read: 0,
-                to_write: 0,
-            },
+            None => NEVER,
+        }
+    }
+
+    /// Takes a connection in. Others may have come with it, so the next wait takes no time.
+    fn register(&mut self, mut stream: TcpStream, address: SocketAddr) -> Got<Socket> {
+        self.is_hurried = true;
+        // A socket that has no such option serves as well, later.
+        let _ = stream.set_nodelay(true);
+        let both = Interest::READABLE | Interest::WRITABLE;
+        let token = self.next;
+        self.next = if token < TOKENS - 1 { token + 1 } else { 0 };
+        match self
+            .poll
+            .registry()
+            .register(&mut stream, Token(token), both)
+        {
+            Ok(()) => Got::Given(Socket {
+                token,
+                read_at: None,
+                written_at: None,
+                over_at: self.told_of(token).over,
+                stream,
+                address,
+            }),
+            Err(_) => Got::Failure,
         }
     }
 }
@@ -158,7 +191,7 @@ impl Link for PollLink {
         if !self.may_come && !self.is_blind {
             return Got::Nothing;
         }
-        let (mut stream, address) = match self.listener.accept() {
+        let (stream, address) = match self.listener.accept() {
             Ok(came) => came,
             Err(fault) => {
                 return match fault.kind() {
@@ -171,25 +204,7 @@ impl Link for PollLink {
                 };
             }
         };
-        // A socket that has no such option serves as well, later.
-        let _ = stream.set_nodelay(true);
-        let both = Interest::READABLE | Interest::WRITABLE;
-        let token = self.next;
-        self.next = if token < TOKENS - 1 { token + 1 } else { 0 };
-        match self
-            .poll
-            .registry()
-            .register(&mut stream, Token(token), both)
-        {
-            Ok(()) => Got::Given(Socket {
-                stream,
-                address,
-                token,
-                read_at: None,
-                written_at: None,
-            }),
-            Err(_) => Got::Failure,
-        }
+        self.register(stream, address)
     }
 
     fn address(&self, peer: &Socket) -> Option<SocketAddr> {
@@ -197,7 +212,7 @@ impl Link for PollLink {
     }
 
     fn may_give(&self, peer: &Socket) -> bool {
-        self.is_blind || peer.read_at != Some(self.told_of(peer).to_read)
+        self.is_blind || peer.read_at != Some(self.told_of(peer.token).to_read)
     }
 
     /// Waits until a socket changes or the time is up; not at all where it is hurried. A wait that fails is none. While
@@ -221,16 +236,21 @@ impl Link for PollLink {
         if !self.may_give(peer) {
             return Got::Nothing;
         }
-        let told = self.told_of(peer).to_read;
+        let told = self.told_of(peer.token);
         let count = peer.stream.read(buffer);
-        peer.read_at = if would_wait(&count) { Some(told) } else { None };
+        let is_drained = match &count {
+            // What ended it is told behind the bytes that came.
+            Ok(came) => *came < buffer.len() && told.over == peer.over_at,
+            Err(_) => would_wait(&count),
+        };
+        peer.read_at = if is_drained { Some(told.to_read) } else { None };
         let given = got(count);
         self.is_hurried |= is_end(&given);
         given
     }
 
     fn write(&mut self, peer: &mut Socket, bytes: &[u8]) -> Got<usize> {
-        let told = self.told_of(peer).to_write;
+        let told = self.told_of(peer.token).to_write;
         if peer.written_at == Some(told) && !self.is_blind {
             return Got::Nothing;
         }

@@ -47,7 +47,7 @@ module _ {K : Type 0} (g : Ghosts K) where
   pub stretches_run : (begin : ℕ) (moments : List ℕ) (at : ℕ) (old new : Hosting (Serving K)) → Stretches g begin moments at old new
       → old.engine.running.stopped ≡ false → new.engine.running.stopped ≡ false
   stretches_run begin moments at old new no_stretch runs = runs
-  stretches_run begin moments at old new (stretch_after j before it) runs =
+  stretches_run begin moments at old new (stretch_after j before it _) runs =
       stored_runs it.went (server it.served.engine it.served.links.wires) (server j.engine j.links.wires) it.stores
 
   -- so after any number of turns

@@ -256,8 +256,8 @@ module _ {K : Type 0} (g : Ghosts K) where
   pub stretches_say : (begin : ℕ) (moments : List ℕ) (at : ℕ) (old new : Hosting (Serving K)) → Stretches g begin moments at old new
       → Says (server old.engine old.links.wires) (server new.engine new.links.wires)
   stretches_say begin moments at old new no_stretch = says_still (server old.engine old.links.wires)
-  stretches_say begin moments at old new (stretch_after {read} {more} {last} {next} {busy} {i} j before stretch) =
-      subst (λ (ws : List Wire). Says (server old.engine old.links.wires) (server j.engine ws)) (sym (rested_wires busy j))
+  stretches_say begin moments at old new (stretch_after {read} {more} {last} {next} {busy} {at_once} {i} j before stretch _) =
+      subst (λ (ws : List Wire). Says (server old.engine old.links.wires) (server j.engine ws)) (sym (rested_wires at_once j))
       (says_then _ (server i.engine i.links.wires) _ (stretches_say begin read last old i before) (stretch_said last more next busy i j stretch))
 
   -- and the stretch that breaks off

@@ -315,6 +315,6 @@ module _ {K : Type 0} (g : Ghosts K) where
       → Stretches g begin moments at old new → IsHeldSince g (server new.engine new.links.wires)
   stretches_since begin moments at old new all no_stretch =
       record { then = server old.engine old.links.wires; stored = all; holds = holds_still (server old.engine old.links.wires) }
-  stretches_since begin moments at old new all (stretch_after {read} {more} {last} {next} {busy} {i} j before stretch) =
-      subst (λ (ws : List Wire). IsHeldSince g (server j.engine ws)) (sym (rested_wires busy j))
+  stretches_since begin moments at old new all (stretch_after {read} {more} {last} {next} {busy} {at_once} {i} j before stretch _) =
+      subst (λ (ws : List Wire). IsHeldSince g (server j.engine ws)) (sym (rested_wires at_once j))
       (stretch_since last more next busy i j (stretches_since begin read last old i all before) stretch)

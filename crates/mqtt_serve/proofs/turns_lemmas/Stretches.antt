@@ -8,7 +8,7 @@ use Rattle.mqtt_link.specs.Links.{and_then}
 use Rattle.mqtt_serve.specs.declared.turns.settling.TheConstants.{TURNS_TOGETHER}
 use Rattle.mqtt_serve.specs.declared.turns.turn.Pace.{Pace}
 use Rattle.mqtt_serve.specs.turns.Breaks.{BreaksOff}
-use Rattle.mqtt_serve.specs.turns.Settled.{IsStoredOrPutOff, OfTold, RunsSettledFor, RunsSettledUntil, RunsStretch, RunsStretchUntil, RunsTogether, RunsTogetherUntil, ServedTurn, StoresNothing, Stretches, no_stretch, not_begun, stretch_after, turn_more}
+use Rattle.mqtt_serve.specs.turns.Settled.{IsAtOnce, IsStoredOrPutOff, OfTold, RunsSettledFor, RunsSettledUntil, RunsStretch, RunsStretchUntil, RunsTogether, RunsTogetherUntil, ServedTurn, StoresNothing, Stretches, no_stretch, not_begun, stretch_after, turn_more}
 use Rattle.mqtt_serve.specs.turns.Turns.{Hosting, hosting, pace_of, rested, server}
 use Rattle.mqtt_serve.proofs.turns_lemmas.Joined.{and_then_append}
 
@@ -146,14 +146,14 @@ module _ {K : Type 0} {g : Ghosts K} where
   stretches_none = told_none (omega arith, no_stretch)
 
   -- one more was had
-  pub stretches_more : (then : ℕ) {begin turns left had last next : ℕ} {busy : Bool} {told told_then told_now : Option (List ℕ)} {old h i j : Hosting (Serving K)}
+  pub stretches_more : (then : ℕ) {begin turns left had last next : ℕ} {busy at_once : Bool} {told told_then told_now : Option (List ℕ)} {old h i j : Hosting (Serving K)}
       → StretchesSoFar g begin turns left last told told_then old h
       → RunsStretch g last had next busy told_then told_now h i → then + had ≡ left
-      → j ≡ hosting i.engine (rested busy i.links) → StretchesSoFar g begin turns then next told told_now old j
-  stretches_more then {begin} {turns} {left} {had} {last} {next} {busy} {told} {told_then} {told_now} {old} {h} {i} {j} before of is rests =
+      → IsAtOnce busy at_once i.links.wires → j ≡ hosting i.engine (rested at_once i.links) → StretchesSoFar g begin turns then next told told_now old j
+  stretches_more then {begin} {turns} {left} {had} {last} {next} {busy} {at_once} {told} {told_then} {told_now} {old} {h} {i} {j} before of is now rests =
       rw rests (told_more of.read before of.told_is (λ r so. (
         omega (arith, length_more r of.read (length r) had refl of.is_so.0, is, so.0),
-        stretch_after i so.1 of.is_so.1,
+        stretch_after i so.1 of.is_so.1 now,
       )))
 
   -- the next broke off

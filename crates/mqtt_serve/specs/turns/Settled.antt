@@ -1,5 +1,5 @@
 -- Turns whose steps are stored together, before anything of them goes out (MQTT 5.0, 4.1, 4.2).
-use Rattle.std.specs.Prelude.{◌≡◌, ◌≢◌, ◌⊎◌, ℕ, ◌+◌, ◌<◌, ◌≤◌, max, Bool, true, false, ◌||◌, List, [], ◌∷◌, ◌++◌, length, Option, Result, Ok, Err, ⊤}
+use Rattle.std.specs.Prelude.{◌≡◌, ◌≢◌, ◌⊎◌, ℕ, ◌+◌, ◌<◌, ◌≤◌, max, All, Bool, true, false, ◌||◌, List, [], ◌∷◌, ◌++◌, length, Option, Result, Ok, Err, ⊤}
 use Rattle.mqtt_keep.specs.declared.keeping.keep.Keep.{Ghosts}
 use Rattle.mqtt_rules.specs.declared.step.Capacity.{Capacity}
 use Rattle.mqtt_broker_step.specs.declared.call.EngineError.{EngineError}
@@ -12,7 +12,7 @@ use Rattle.mqtt_serve.specs.declared.turns.turn.Pace.{Pace}
 use Rattle.mqtt_serve.specs.turns.Breaks.{BreaksOff}
 use Rattle.mqtt_serve.specs.turns.Related.{RelatedAt}
 use Rattle.mqtt_serve.specs.turns.Turns.{Server, server, Hosting, hosting, Linked, Accepts, Begins, ServesAll, pace_of, rested, without_closed}
-use Rattle.mqtt_serve.specs.turns.Wires.{Wire, LetsGo}
+use Rattle.mqtt_serve.specs.turns.Wires.{Wire, LetsGo, is_lost, may_send}
 
 -- ---- what is held back goes out
 
@@ -114,11 +114,23 @@ StretchBreaksOff g begin read error old new = BreaksServing g begin read error o
 
 -- ---- stretches one after the other
 
--- after one in which nothing came or went the link is asked to wait
+-- before the link waits nothing is to be done on a connection: it is not lost, and if the last write took all that waited nothing
+-- waits on it
+pub record CanWait (w : Wire) : Type 0 where
+  pub not_lost : is_lost w.fate ≡ false
+  pub nothing_waits : may_send w ≡ true → w.waits ≡ []
+
+-- whether the next comes at once: only behind one that was busy; and behind such a one the link waits only if each connection can wait
+pub record IsAtOnce (busy at_once : Bool) (wires : List Wire) : Type 0 where
+  pub behind_busy : at_once ≡ true → busy ≡ true
+  pub can_wait : busy ≡ true → at_once ≡ false → All CanWait wires
+
+-- after one in which nothing came or went the link is asked to wait; after another it is if nothing is to be done at once
 pub data Stretches {K : Type 0} (g : Ghosts K) (begin : ℕ) : List ℕ → ℕ → Hosting (Serving K) → Hosting (Serving K) → Type 0 where
   no_stretch : {h : Hosting (Serving K)} → Stretches g begin [] begin h h
-  stretch_after : {read more : List ℕ} {last next : ℕ} {busy : Bool} {h i : Hosting (Serving K)} (j : Hosting (Serving K)) → Stretches g begin read last h i
-      → Stretch g last more next busy i j → Stretches g begin (read ++ more) next h (hosting j.engine (rested busy j.links))
+  stretch_after : {read more : List ℕ} {last next : ℕ} {busy at_once : Bool} {h i : Hosting (Serving K)} (j : Hosting (Serving K))
+      → Stretches g begin read last h i → Stretch g last more next busy i j → IsAtOnce busy at_once j.links.wires
+      → Stretches g begin (read ++ more) next h (hosting j.engine (rested at_once j.links))
 
 -- some were had, and the next breaks off
 pub record StretchesBreakOff {K : Type 0} (g : Ghosts K) (begin : ℕ) (read : List ℕ) (error : EngineError) (old new : Hosting (Serving K)) : Type 0 where

@@ -20,12 +20,11 @@ pub enum Fate {
     Closed,
 }
 
-/// A connection that the broker has linked.
+/// A connection that the broker has linked. What each turn looks at stands in front, together.
 #[derive(Drop)]
 pub struct Connection<L: Link> {
     pub(crate) number: u64,
-    pub(crate) peer: L::Peer,
-    waiting: Waiting,
+    fate: Fate,
     is_clear: bool,
     /// Whether the last read filled its buffer.
     has_more: bool,
@@ -33,11 +32,12 @@ pub struct Connection<L: Link> {
     has_moved: bool,
     /// Whether the broker may have something to send on it.
     pub(crate) is_stirred: bool,
-    /// The birth of the session that is connected on its line, once it is known.
-    pub(crate) birth: Option<u64>,
-    fate: Fate,
+    waiting: Waiting,
+    pub(crate) peer: L::Peer,
     /// Why it is lost, if it is.
     loss: Loss,
+    /// The birth of the session that is connected on its line, once it is known.
+    pub(crate) birth: Option<u64>,
     /// What decides whether it is left unread.
     pub(crate) seen: Seen,
 }
@@ -65,8 +65,7 @@ impl<L: Link> Model for Connection<L> {
     } };
 }
 
-/// Puts the outputs to a line behind what waits on it, up to the first that finds no room: too much would wait (1), or memory
-/// is wanting (2).
+/// Puts the outputs to a line behind what waits, up to the first that finds no room: too much would wait (1), or memory lacks (2).
 fn push_all(
     waiting: &mut Waiting,
     number: u64,
@@ -106,15 +105,15 @@ impl<L: Link> Connection<L> {
     {
         Connection {
             number,
-            peer,
-            waiting: Waiting::new(alloc),
+            fate: Fate::Stands,
             is_clear: false,
             has_more: false,
             has_moved: false,
             is_stirred: true,
-            birth: None,
-            fate: Fate::Stands,
+            waiting: Waiting::new(alloc),
+            peer,
             loss: Loss::Closed,
+            birth: None,
             seen: Seen::new(),
         }
     }
@@ -165,7 +164,9 @@ impl<L: Link> Connection<L> {
     }
 
     /// Whether something waits on it, or may be sent, that was not tried to be written yet.
-    pub fn has_new(&self) -> bool {
+    pub fn has_new(&self) -> bool
+        ensures { result ≡ false → may_send self.now ≡ true → self.now.waits ≡ [] }
+    {
         self.may_send() && (self.is_stirred || !self.waiting.is_empty())
     }
 

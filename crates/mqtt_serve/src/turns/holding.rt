@@ -147,7 +147,11 @@ fn choose<L: Link + Drop, K: Keep>(
     leave_all(lines, pressed, moment);
 }
 
-/// Chooses who is left unread from the next turn on, as `mqtt_holding` says; once for a moment, since it looks at each connection.
+/// How many connections make a choice of whom to leave unread hold for a millisecond longer (ours).
+const CHOICE_SPAN: usize = 256;
+
+/// Chooses who is left unread from the next turn on, as `mqtt_holding` says; once in a millisecond, or in up to four with 1,000
+/// connections, since it looks at each.
 pub(crate) fn hold<L: Link + Drop, K: Keep>(
     links: &mut Links<HeldBack<L>>,
     engine: &Engine<K>,
@@ -155,8 +159,10 @@ pub(crate) fn hold<L: Link + Drop, K: Keep>(
 )
     ensures { links.new ≡ links.old }
 {
-    if links.chosen != Some(moment) {
-        links.chosen = Some(moment);
+    let milliseconds = 1 + (links.lines.len() / CHOICE_SPAN) as u64;
+    let span = Some(moment / milliseconds);
+    if links.chosen != span {
+        links.chosen = span;
         choose(&mut links.lines, engine, moment);
     }
 }

@@ -1,14 +1,16 @@
 //! Turns of the server, one after the other (MQTT 5.0, 4.2).
-ghost use Rattle.std.specs.Prelude.{◌≡◌, ◌≢◌, ◌∷◌, [], ℕ, List, Option, None, OnOk, IfErr};
+ghost use Rattle.std.specs.Prelude.{◌≡◌, ◌≢◌, ◌∷◌, [], ℕ, All, List, Option, None, false, OnOk, IfErr};
 ghost use Rattle.mqtt_link.specs.Links.{and_then};
 ghost use Rattle.mqtt_serve.specs.turns.Breaks.{RunsUntil};
+ghost use Rattle.mqtt_serve.specs.turns.Settled.{CanWait, IsAtOnce};
 ghost use Rattle.mqtt_serve.specs.turns.Turns.{hosting, rested, RunsFor};
 
+use crate::turns::connection::Connection;
 use crate::turns::turn::{Links, serve_turn};
 use mqtt_broker::Engine;
 use mqtt_broker_step::EngineError;
 use mqtt_keep::Keep;
-use mqtt_link::Link;
+use mqtt_link::{HeldBack, Link};
 
 /// A clock. One that tells its moments has `told`; of another it says nothing.
 pub trait Timer {
@@ -30,13 +32,50 @@ fn hurry<L: Link + Drop>(links: &mut Links<L>)
 }
 
 /// Waits a little after a turn in which nothing came or went.
-pub(crate) fn rest<L: Link + Drop>(links: &mut Links<L>, busy: bool)
+fn rest<L: Link + Drop>(links: &mut Links<L>, busy: bool)
     ensures { links.new ≡ rested busy links.old }
 {
     if !busy {
         hurry(links);
         links.wait();
     }
+}
+
+impl<L: Link + Drop> Connection<HeldBack<L>> {
+    /// Whether something is to be done on it before the link waits, behind a stretch that was busy: it is lost, something is to go
+    /// out on it, or something may have come.
+    fn is_awake(&self, link: &HeldBack<L>) -> bool
+        ensures { result ≡ false → CanWait self.now }
+    {
+        self.is_lost() || self.has_new() || link.has_come(&self.peer)
+    }
+}
+
+/// Whether something is to be done on a connection before the link waits, behind a stretch that was busy.
+fn is_any_awake<L: Link + Drop>(link: &HeldBack<L>, lines: &[Connection<HeldBack<L>>]) -> bool
+    ensures { result ≡ false → All CanWait lines.now }
+{
+    for line in lines {
+        if line.is_awake(link) {
+            return true;
+        }
+    }
+    false
+}
+
+/// Behind a stretch the next comes at once, if this one was busy and something is to be done; else the link is asked to wait a
+/// little. Whether it comes at once.
+pub(crate) fn rest_behind<L: Link + Drop>(links: &mut Links<HeldBack<L>>, busy: bool) -> bool
+    ensures at_once { IsAtOnce busy result links.old.wires }
+    ensures rests { links.new ≡ rested result links.old }
+{
+    let at_once = busy && is_any_awake(&links.link, &links.lines);
+    match (busy, at_once) {
+        (false, _) => rest(links, false),
+        (true, false) => links.wait(),
+        (true, true) => {}
+    }
+    at_once
 }
 
 /// Runs so many turns from a moment on, each at the greatest moment that the clock has told. After one in which nothing was

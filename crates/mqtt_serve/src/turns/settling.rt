@@ -11,7 +11,7 @@ use crate::journal::Journal;
 use crate::turns::accepting::accept;
 use crate::turns::connection::Connection;
 use crate::turns::holding::hold;
-use crate::turns::running::{Timer, rest};
+use crate::turns::running::{Timer, rest_behind};
 use crate::turns::turn::{FULL_TURN_EVERY, Links, Pace, drop_closed, serve_all};
 use mqtt_broker::Engine;
 use mqtt_broker_step::EngineError;
@@ -248,8 +248,8 @@ pub fn serve_stretch<L: Link + Drop, K: Settles, T: Timer, J: Journal>(
     })
 }
 
-/// Runs so many turns in stretches, the first from a moment on. After a stretch in which nothing came or went the link is asked to wait.
-/// `Stopped` (2) and `Spent` (3) are the engine's.
+/// Runs so many turns in stretches, the first from a moment on. The link is asked to wait after a stretch in which nothing came or
+/// went, and after another if nothing is to be done at once. `Stopped` (2) and `Spent` (3) are the engine's.
 pub fn run_settled_turns<L: Link + Drop, K: Settles, T: Timer, J: Journal>(
     links: &mut Links<HeldBack<L>>,
     engine: &mut Engine<K>,
@@ -269,7 +269,7 @@ pub fn run_settled_turns<L: Link + Drop, K: Settles, T: Timer, J: Journal>(
     while left > 0 {
         let had = serve_stretch(links, engine, timer, left, last, journal)?;
         journal.rested(had.last, engine);
-        rest(links, had.busy);
+        rest_behind(links, had.busy);
         last = had.last;
         left -= had.turns;
     }

@@ -44,7 +44,7 @@ pub struct Links<L: Link + Drop> {
     pub(crate) alloc: Global,
     pub(crate) link: L,
     pub(crate) lines: Vec<Connection<L>>,
-    /// The moment at which the server last chose whom to leave unread.
+    /// In which span of milliseconds the server last chose whom to leave unread.
     pub(crate) chosen: Option<u64>,
 }
 

@@ -119,6 +119,7 @@ pub struct Clients {
     chunk: usize,
     fault: Option<Fault>,
     failed: Option<usize>,
+    waits: u64,
 }
 
 /// The place of a client.
@@ -151,6 +152,7 @@ impl Clients {
             chunk,
             fault,
             failed: None,
+            waits: 0,
         })
     }
 
@@ -168,6 +170,11 @@ impl Clients {
             Some(client) => client.reads,
             None => 0,
         }
+    }
+
+    /// How often it was asked to wait.
+    pub fn waits(&self) -> u64 {
+        self.waits
     }
 
     /// The client one of whose calls went wrong.
@@ -225,7 +232,9 @@ impl Link for Clients {
         }
     }
 
-    fn wait(&mut self) {}
+    fn wait(&mut self) {
+        self.waits = self.waits.wrapping_add(1);
+    }
 
     fn read(&mut self, peer: &mut Peer, buffer: &mut [u8]) -> Got<usize> {
         if let Some(wrong) = self.goes_wrong(Call::Read, peer.place) {

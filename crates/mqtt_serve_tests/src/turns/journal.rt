@@ -1,11 +1,12 @@
 //! What the journal of the server writes of connections, of sessions and of Wills, as text (MQTT 5.0, 3.1, 3.2, 3.14, 4.1).
 use crate::turns::clients::{Call, Clients, Fault, Stage, Wrong};
+use crate::turns::stretches::Standing;
 use mqtt_broker::Engine;
 use mqtt_flow::Full;
 use mqtt_keep::MemKeep;
 use mqtt_link::{Commit, HeldBack};
 use mqtt_rules::Limits;
-use mqtt_serve::{Gathered, Links, ServerLog, Timer, run_settled_turns};
+use mqtt_serve::{Gathered, Links, ServerLog, run_settled_turns};
 use std::alloc::Global;
 use std::hash::RandomState;
 use std::test::Fail;
@@ -17,18 +18,6 @@ const LIMITS: Limits = Limits {
     sessions: 2,
     retained: 10,
 };
-
-/// A clock that stands.
-#[derive(Drop)]
-struct Standing {
-    moment: u64,
-}
-
-impl Timer for Standing {
-    fn now(&mut self) -> u64 {
-        self.moment
-    }
-}
 
 /// What becomes of clients: what each sends, a call that goes wrong, the moment of the later turns in milliseconds, and what the
 /// journal writes.

@@ -27,8 +27,8 @@ pub(crate) fn taken(links: &Held) -> (usize, usize) {
 
 /// A clock that stands.
 #[derive(Drop)]
-struct Standing {
-    moment: u64,
+pub(crate) struct Standing {
+    pub(crate) moment: u64,
 }
 
 impl Timer for Standing {

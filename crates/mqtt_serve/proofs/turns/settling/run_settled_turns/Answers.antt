@@ -8,7 +8,7 @@ loop-left-init g c = stretches_none
 
 pub loop-left-preserved : goal.loop-left-preserved
 loop-left-preserved g c =
-    stretches_more _ c.loop-left.invariant c.in_ok-had.ensures.stretch (omega (arith, c.in_ok-had.ensures.within.1)) (ap (hosting c.serve_stretch.new.engine) c.rest.ensures)
+    stretches_more _ c.loop-left.invariant c.in_ok-had.ensures.stretch (omega (arith, c.in_ok-had.ensures.within.1)) c.rest_behind.ensures.at_once (ap (hosting c.serve_stretch.new.engine) c.rest_behind.ensures.rests)
 
 pub returns-clause-ran : goal.returns-clause-ran
 returns-clause-ran g c = stretches_all c.loop-left.invariant (omega arith)
