@@ -1,5 +1,5 @@
 //! A link whose connections hold back what is written to them until it is let go, and can be left unread (MQTT 5.0, 4.2).
-ghost use Rattle.std.specs.Prelude.{◌≡◌, length, true};
+ghost use Rattle.std.specs.Prelude.{◌≡◌, length, true, false};
 ghost use Rattle.mqtt_link.specs.Links.{GivesAtMost, and_then, ended_by, ended_unless, handed, now_told, one_more, one_more_if_any};
 
 use crate::link::{Got, Link};
@@ -38,11 +38,14 @@ impl<L: Link> HeldPeer<L> {
         self.held.len()
     }
 
-    /// It is left unread from now on, or read again. Takes no memory.
-    pub fn leave_unread(&mut self, unread: bool)
-        ensures { self.new ≡ record self.old { is_unread = unread } }
+    /// It is left unread from now on, or read again. Whether that changed. Takes no memory.
+    pub fn leave_unread(&mut self, unread: bool) -> bool
+        ensures unread { self.new ≡ record self.old { is_unread = unread } }
+        ensures changed { result ≡ false → self.old.is_unread ≡ unread }
     {
+        let changed = self.is_unread != unread;
         self.is_unread = unread;
+        changed
     }
 }
 
@@ -149,6 +152,14 @@ impl<L: Link + Drop> Link for HeldBack<L> {
 
     fn may_give(&self, peer: &HeldPeer<L>) -> bool {
         !peer.is_unread && self.has_come(peer)
+    }
+
+    fn key(&self, peer: &HeldPeer<L>) -> usize {
+        self.link.key(&peer.peer)
+    }
+
+    fn is_told(&self, key: usize) -> bool {
+        self.link.is_told(key)
     }
 
     fn wait(&mut self) {

@@ -67,6 +67,17 @@ pub trait Link {
         true
     }
 
+    /// By which number the link tells of a connection; several may share one.
+    fn key(&self, _peer: &Self::Peer) -> usize {
+        0
+    }
+
+    /// Whether something may have come about on a connection with this number since the turn before: where it has not, a read
+    /// that gave nothing would give nothing again.
+    fn is_told(&self, _key: usize) -> bool {
+        true
+    }
+
     /// Waits a little, or until a connection changes.
     fn wait(&mut self)
         ensures counted { calls self.new ≡ waited (calls self.old) };

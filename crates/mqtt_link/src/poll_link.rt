@@ -65,6 +65,8 @@ pub struct PollLink {
     events: Events,
     /// By token.
     told: Vec<Told>,
+    /// Whether the last look told of a token, by token.
+    is_fresh: Vec<bool>,
     /// The token of the next connection.
     next: usize,
     /// The listener may have a connection.
@@ -99,6 +101,7 @@ impl PollLink {
         let poll = Poll::new(net)?;
         let events = Events::with_capacity(alloc, EVENTS)?;
         let told = Vec::from_elem(alloc, NEVER, TOKENS)?;
+        let is_fresh = Vec::from_elem(alloc, false, TOKENS)?;
         poll.registry()
             .register(&mut listener, Token(LISTENER), Interest::READABLE)?;
         Ok(PollLink {
@@ -106,6 +109,7 @@ impl PollLink {
             poll,
             events,
             told,
+            is_fresh,
             next: 0,
             may_come: true,
             has_looked: false,
@@ -125,13 +129,18 @@ impl PollLink {
         let limit = Some(Duration::from_millis(limit));
         self.is_blind = self.poll.poll(&mut self.events, limit).is_err();
         self.has_looked = true;
+        self.is_fresh.fill(false);
         for event in self.events.iter() {
             let Token(token) = event.token();
             // A connection that fails or is closed is told by the call that finds it so.
             let is_over = event.is_error() || event.is_read_closed() || event.is_write_closed();
             if token == LISTENER {
                 self.may_come = true;
-            } else if let Some(told) = self.told.get_mut(token) {
+            } else if let (Some(told), Some(is_fresh)) = (
+                self.told.get_mut(token),
+                self.is_fresh.get_mut(token),
+            ) {
+                *is_fresh = true;
                 if is_over {
                     told.over = told.over.wrapping_add(1);
                 }
@@ -213,6 +222,14 @@ impl Link for PollLink {
 
     fn may_give(&self, peer: &Socket) -> bool {
         self.is_blind || peer.read_at != Some(self.told_of(peer.token).to_read)
+    }
+
+    fn key(&self, peer: &Socket) -> usize {
+        peer.token
+    }
+
+    fn is_told(&self, key: usize) -> bool {
+        self.is_blind || self.is_fresh.get(key).copied().unwrap_or(true)
     }
 
     /// Waits until a socket changes or the time is up; not at all where it is hurried. A wait that fails is none. While

@@ -9,5 +9,8 @@ pub mod Said
 pub mod Empty
 pub mod Saying
 pub mod Lasting
+pub mod Noted
+pub mod Gaps
+pub mod Passing
 pub mod Starts
 pub mod StartExamples

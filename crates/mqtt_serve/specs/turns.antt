@@ -2,6 +2,7 @@ pub mod Breaks
 pub mod Events
 pub mod Leaving
 pub mod Related
+pub mod Resting
 pub mod Said
 pub mod Settled
 pub mod Starts

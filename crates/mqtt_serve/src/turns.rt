@@ -4,6 +4,7 @@
 mod accepting;
 mod asking;
 mod connection;
+mod connections;
 mod giving;
 mod holding;
 mod keeping;

@@ -1,11 +1,11 @@
 //! A connection that is accepted (MQTT 5.0, 4.2).
-ghost use Rattle.std.specs.Prelude.{◌≡◌, ◌≤◌, ◌+◌, length};
-ghost use Rattle.std.specs.Vec.{vec_capacity};
+ghost use Rattle.std.specs.Prelude.{◌≡◌};
 ghost use Rattle.mqtt_link.specs.Links.{asked};
 ghost use Rattle.mqtt_serve.specs.turns.Turns.{server, Accepts};
 
 use crate::journal::Journal;
 use crate::turns::connection::Connection;
+use crate::turns::connections::Connections;
 use mqtt_base::LINE_LIMIT;
 use mqtt_broker::Engine;
 use mqtt_keep::Keep;
@@ -17,16 +17,14 @@ use std::alloc::Global;
 pub(crate) fn accept<L: Link, K: Keep, J: Journal>(
     alloc: Global,
     link: &mut L,
-    lines: &mut Vec<Connection<L>>,
+    lines: &mut Connections<L>,
     engine: &mut Engine<K>,
     moment: u64,
     journal: &mut J,
 ) -> bool
-    requires room { LINE_LIMIT ≤ vec_capacity lines.old }
     ensures accepts { Accepts K.Keep moment result
-        (server engine.old lines.old.items) (server engine.new lines.new.items) }
+        (server engine.old lines.old) (server engine.new lines.new) }
     ensures counted { L.calls link.new ≡ asked result (L.calls link.old) }
-    ensures room { LINE_LIMIT ≤ vec_capacity lines.new }
 {
     let peer = match link.accept() {
         Got::Given(peer) => peer,
@@ -39,8 +37,7 @@ pub(crate) fn accept<L: Link, K: Keep, J: Journal>(
     }
     match engine.link(moment) {
         Some(number) => {
-            // There is room.
-            let _ = lines.push(Connection::new(alloc, number, peer));
+            lines.push(link, Connection::new(alloc, number, peer));
             journal.accepted(moment, number, address);
         }
         None => journal.dropped(moment, address),

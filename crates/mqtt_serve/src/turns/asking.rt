@@ -5,7 +5,7 @@ ghost use Rattle.mqtt_serve.specs.turns.Breaks.{Refused};
 ghost use Rattle.mqtt_serve.specs.turns.Turns.{server, may_send_at, stands_at, is_lost_at, Tells, LosesIf, PumpsIf, IsTicked};
 
 use crate::journal::{Call, Journal, Loss};
-use crate::turns::connection::Connection;
+use crate::turns::connections::Connections;
 use crate::turns::stirring::{calm_by, stir_by};
 use crate::turns::telling::{deliver, lose};
 use mqtt_broker::{Engine, Outcome};
@@ -14,48 +14,48 @@ use mqtt_keep::Keep;
 use mqtt_link::Link;
 
 /// The number of the line at a place.
-pub(crate) fn number_at<L: Link>(lines: &[Connection<L>], place: usize) -> u64
+pub(crate) fn number_at<L: Link>(lines: &Connections<L>, place: usize) -> u64
     requires place { place < length lines.now }
     ensures { option_map (λ w. w.number) (slice_get lines.now place) ≡ Some result }
 {
-    lines[place].number()
+    lines.at(place).number()
 }
 
 /// Whether the broker sends to the connection at a place.
-fn may_send_at<L: Link>(lines: &[Connection<L>], place: usize) -> bool
+fn may_send_at<L: Link>(lines: &Connections<L>, place: usize) -> bool
     requires place { place < length lines.now }
     ensures { result ≡ may_send_at place lines.now }
 {
-    lines[place].may_send()
+    lines.at(place).may_send()
 }
 
 /// Whether the connection at a place stands.
-pub(crate) fn stands_at<L: Link>(lines: &[Connection<L>], place: usize) -> bool
+pub(crate) fn stands_at<L: Link>(lines: &Connections<L>, place: usize) -> bool
     requires place { place < length lines.now }
     ensures { result ≡ stands_at place lines.now }
 {
-    lines[place].is_standing()
+    lines.at(place).is_standing()
 }
 
 /// Whether the connection at a place is lost.
-fn is_lost_at<L: Link>(lines: &[Connection<L>], place: usize) -> bool
+fn is_lost_at<L: Link>(lines: &Connections<L>, place: usize) -> bool
     requires place { place < length lines.now }
     ensures { result ≡ is_lost_at place lines.now }
 {
-    lines[place].is_lost()
+    lines.at(place).is_lost()
 }
 
 /// Why the connection at a place is lost.
-fn loss_at<L: Link>(lines: &[Connection<L>], place: usize) -> Loss
+fn loss_at<L: Link>(lines: &Connections<L>, place: usize) -> Loss
     requires place { place < length lines.now }
 {
-    lines[place].loss()
+    lines.at(place).loss()
 }
 
 /// An answer reaches the connections; if memory was wanting, the connection on the line that was asked for is lost.
 /// Another refusal is handed on.
 pub(crate) fn tell<L: Link>(
-    lines: &mut [Connection<L>],
+    lines: &mut Connections<L>,
     number: u64,
     answer: &Result<Outcome, EngineError>,
 ) -> Result<(), EngineError>
@@ -80,7 +80,7 @@ pub(crate) fn tell<L: Link>(
 /// A turn of sending for the line at a place, if it stands and the last write took all that waited: so what a slow
 /// connection is sent waits in the broker, and not here.
 pub(crate) fn pump_at<L: Link, K: Keep, J: Journal>(
-    lines: &mut [Connection<L>],
+    lines: &mut Connections<L>,
     engine: &mut Engine<K>,
     place: usize,
     number: u64,
@@ -106,7 +106,7 @@ pub(crate) fn pump_at<L: Link, K: Keep, J: Journal>(
 
 /// The broker is told of the line at a place, if it is lost. If memory is wanting it is told again in the next turn.
 pub(crate) fn report_at<L: Link, K: Keep, J: Journal>(
-    lines: &mut [Connection<L>],
+    lines: &mut Connections<L>,
     engine: &mut Engine<K>,
     place: usize,
     number: u64,
@@ -133,7 +133,7 @@ pub(crate) fn report_at<L: Link, K: Keep, J: Journal>(
 
 /// A turn of the clock: whether more may be due.
 pub(crate) fn tick<L: Link, K: Keep, J: Journal>(
-    lines: &mut [Connection<L>],
+    lines: &mut Connections<L>,
     engine: &mut Engine<K>,
     moment: u64,
     journal: &mut J,

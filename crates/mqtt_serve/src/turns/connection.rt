@@ -1,6 +1,7 @@
 //! A connection: its line of the broker, what waits to go out on it, and what becomes of it (MQTT 5.0, 4.2).
 ghost use Rattle.std.specs.Prelude.{◌≡◌, ◌≤◌, ◌++◌, [], ℕ, true, false, length, take, OnOk, IfErr, IsTrue};
-ghost use Rattle.mqtt_serve.specs.turns.Wires.{FindsNoRoom, Reads, Hears, LetsGo, WritesAnd, WritesLast, bytes_to, closing, is_standing, is_lost, is_closed, lost_if, may_send};
+ghost use Rattle.mqtt_serve.specs.turns.Resting.{Rests};
+ghost use Rattle.mqtt_serve.specs.turns.Wires.{FindsNoRoom, Reads, Reaches, Hears, LetsGo, WritesAnd, WritesLast, bytes_to, closing, is_standing, is_lost, is_closed, lost_if, may_send};
 
 use crate::journal::Loss;
 use bytes::Bytes;
@@ -195,6 +196,7 @@ impl<L: Link> Connection<L> {
     pub fn read(&mut self, link: &mut L, buffer: &mut [u8]) -> usize
         ensures bound { result ≤ length buffer.new }
         ensures reads { Reads self.old.fate (length buffer.new) (take result buffer.new) self.old self.new }
+        ensures number { self.new.number ≡ self.old.number }
         ensures same { L.calls link.new ≡ L.calls link.old }
     {
         if !self.is_standing() {
@@ -221,6 +223,7 @@ impl<L: Link> Connection<L> {
     /// Writes once what waits, unless it is lost; a write that ends or fails makes it lost. Whether bytes went out.
     pub fn write(&mut self, link: &mut L) -> bool
         ensures writes { WritesAnd result self.old self.new }
+        ensures number { self.new.number ≡ self.old.number }
         ensures same { L.calls link.new ≡ L.calls link.old }
     {
         if self.is_lost() {
@@ -242,6 +245,7 @@ impl<L: Link> Connection<L> {
     /// Writes once more what waits, if the broker has closed its line.
     pub fn write_last(&mut self, link: &mut L)
         ensures writes { WritesLast self.old.fate self.old self.new }
+        ensures number { self.new.number ≡ self.old.number }
         ensures same { L.calls link.new ≡ L.calls link.old }
     {
         if self.is_closed() {
@@ -251,8 +255,9 @@ impl<L: Link> Connection<L> {
 
     /// Puts the outputs to its line behind what waits, if it stands. It is lost if too much would wait or memory is
     /// wanting: then those before the one that finds no room wait, and no other.
-    pub fn tell(&mut self, outputs: &[(u64, Bytes)])
-        ensures { Hears self.old.fate outputs.now self.old self.new }
+    fn tell(&mut self, outputs: &[(u64, Bytes)])
+        ensures hears { Hears self.old.fate outputs.now self.old self.new }
+        ensures number { self.new.number ≡ self.old.number }
     {
         if !self.is_standing() {
             return;
@@ -265,17 +270,28 @@ impl<L: Link> Connection<L> {
     }
 
     /// It is closed, if its line is among those that the broker closed.
-    pub fn close(&mut self, closed: &[u64])
-        ensures { self.new ≡ closing closed.now self.old }
+    fn close(&mut self, closed: &[u64])
+        ensures closes { self.new ≡ closing closed.now self.old }
+        ensures number { self.new.number ≡ self.old.number }
     {
         if closed.contains(&self.number) {
             self.fate = Fate::Closed;
         }
     }
 
+    /// An answer reaches it: the outputs to its line wait on it, and it is closed if that closed its line.
+    pub fn reach(&mut self, outputs: &[(u64, Bytes)], closed: &[u64])
+        ensures reaches { Reaches outputs.now closed.now self.old self.new }
+        ensures number { self.new.number ≡ self.old.number }
+    {
+        self.tell(outputs);
+        self.close(closed);
+    }
+
     /// It is lost for want of memory if it is on this line, and the broker is to be told.
     pub fn lose_if(&mut self, number: u64)
-        ensures { self.new ≡ lost_if number self.old }
+        ensures loses { self.new ≡ lost_if number self.old }
+        ensures number { self.new.number ≡ self.old.number }
     {
         if self.number == number {
             self.fate = Fate::Lost;
@@ -288,6 +304,7 @@ impl<L: Link + Drop> Connection<HeldBack<L>> {
     /// What is held back goes out, by one write; one that stands and whose write ends or fails is lost. Whether bytes went out.
     pub fn let_go(&mut self, link: &mut HeldBack<L>) -> bool
         ensures lets { LetsGo result self.old self.new }
+        ensures number { self.new.number ≡ self.old.number }
         ensures same { L.calls link.new.link ≡ L.calls link.old.link }
     {
         let before = self.peer.held();
@@ -296,5 +313,17 @@ impl<L: Link + Drop> Connection<HeldBack<L>> {
             self.loss = Loss::Failed;
         }
         self.peer.held() < before
+    }
+
+    /// Whether nothing is to be done on it: it stands, nothing waits on it or is held back, the broker has nothing to send on it,
+    /// and nothing has come.
+    pub fn is_at_rest(&self, link: &HeldBack<L>) -> bool
+        ensures { IsTrue result → Rests self.now }
+    {
+        self.may_send()
+            && self.waiting.is_empty()
+            && self.peer.held() == 0
+            && !self.is_stirred
+            && !link.has_come(&self.peer)
     }
 }

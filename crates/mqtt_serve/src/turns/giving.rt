@@ -5,7 +5,7 @@ ghost use Rattle.mqtt_serve.specs.turns.Turns.{server, goes_on, Gives, GivesIf, 
 
 use crate::journal::{Call, Journal};
 use crate::turns::asking::{stands_at, tell};
-use crate::turns::connection::Connection;
+use crate::turns::connections::Connections;
 use crate::turns::holding::note_at;
 use crate::turns::stirring::stir_by;
 use crate::turns::telling::lose;
@@ -19,7 +19,7 @@ const PIECE_LIMIT: u64 = u64::MAX;
 
 /// A piece is given to the broker: how many of its bytes were taken, and whether more is whole.
 fn give_piece<L: Link, K: Keep, J: Journal>(
-    lines: &mut [Connection<L>],
+    lines: &mut Connections<L>,
     engine: &mut Engine<K>,
     place: usize,
     number: u64,
@@ -69,7 +69,7 @@ fn goes_on(again: bool, rest: &[u8]) -> bool
 /// Bytes of the line at a place are given to the broker, until all are taken and nothing more is whole, or the line stands
 /// no longer.
 fn give<L: Link, K: Keep, J: Journal>(
-    lines: &mut [Connection<L>],
+    lines: &mut Connections<L>,
     engine: &mut Engine<K>,
     place: usize,
     number: u64,
@@ -102,7 +102,7 @@ fn give<L: Link, K: Keep, J: Journal>(
 
 /// If bytes came on the line at a place, they are given to the broker.
 pub(crate) fn give_at<L: Link, K: Keep, J: Journal>(
-    lines: &mut [Connection<L>],
+    lines: &mut Connections<L>,
     engine: &mut Engine<K>,
     place: usize,
     number: u64,

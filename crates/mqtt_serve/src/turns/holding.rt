@@ -1,8 +1,8 @@
 //! Connections that are left unread for a while: those that publish, while a client that takes what it is sent has too much before it (ours).
 ghost use Rattle.std.specs.Prelude.{◌≡◌, ◌<◌, length};
-ghost use Rattle.std.specs.Vec.{vec_capacity};
 
 use crate::turns::connection::Connection;
+use crate::turns::connections::Connections;
 use crate::turns::turn::Links;
 use mqtt_base::Ending;
 use mqtt_broker::{Engine, Outcome};
@@ -57,18 +57,18 @@ impl<L: Link + Drop> Connection<HeldBack<L>> {
         self.seen.is_pressing(moment)
     }
 
-    /// It is left unread if it is held, and else read.
-    fn leave(&mut self, pressed: bool, moment: u64)
+    /// It is left unread if it is held, and else read. Whether that changed.
+    fn leave(&mut self, pressed: bool, moment: u64) -> bool
         ensures { self.new ≡ self.old }
     {
         let is_held = self.seen.is_held(pressed, moment);
-        self.peer.leave_unread(is_held);
+        self.peer.leave_unread(is_held)
     }
 }
 
 /// What came on the line at a place is noted, by what the broker answered.
 pub(crate) fn note_at<L: Link>(
-    lines: &mut [Connection<L>],
+    lines: &mut Connections<L>,
     place: usize,
     answer: &Result<Outcome, EngineError>,
     moment: u64,
@@ -77,13 +77,13 @@ pub(crate) fn note_at<L: Link>(
     ensures same { lines.new ≡ lines.old }
 {
     if let Ok(out) = answer {
-        lines[place].note(out, moment);
+        lines.all[place].note(out, moment);
     }
 }
 
 /// The server looks how many copies there are for the session at a place: whether others are to be held for it.
 fn look_at<L: Link + Drop, K: Keep>(
-    lines: &mut [Connection<HeldBack<L>>],
+    lines: &mut Connections<HeldBack<L>>,
     engine: &Engine<K>,
     place: usize,
     mark: usize,
@@ -92,13 +92,13 @@ fn look_at<L: Link + Drop, K: Keep>(
     requires place { place < length lines.old }
     ensures same { lines.new ≡ lines.old }
 {
-    let waits = engine.queue_on(lines[place].number());
-    lines[place].look(mark, waits, moment)
+    let waits = engine.queue_on(lines.numbers[place]);
+    lines.all[place].look(mark, waits, moment)
 }
 
 /// The connection at a place is left unread if it is held.
 fn leave_at<L: Link + Drop>(
-    lines: &mut [Connection<HeldBack<L>>],
+    lines: &mut Connections<HeldBack<L>>,
     place: usize,
     pressed: bool,
     moment: u64,
@@ -106,12 +106,14 @@ fn leave_at<L: Link + Drop>(
     requires place { place < length lines.old }
     ensures same { lines.new ≡ lines.old }
 {
-    lines[place].leave(pressed, moment);
+    if lines.all[place].leave(pressed, moment) {
+        lines.wake_at(place);
+    }
 }
 
 /// The server looks how many copies there are for each session: whether others are to be held for one.
 fn look_all<L: Link + Drop, K: Keep>(
-    lines: &mut [Connection<HeldBack<L>>],
+    lines: &mut Connections<HeldBack<L>>,
     engine: &Engine<K>,
     moment: u64,
 ) -> bool
@@ -126,7 +128,7 @@ fn look_all<L: Link + Drop, K: Keep>(
 }
 
 /// Connections that are held are left unread, and the others are read.
-fn leave_all<L: Link + Drop>(lines: &mut [Connection<HeldBack<L>>], pressed: bool, moment: u64)
+fn leave_all<L: Link + Drop>(lines: &mut Connections<HeldBack<L>>, pressed: bool, moment: u64)
     ensures same { lines.new ≡ lines.old }
 {
     for place in 0..lines.len() {
@@ -136,12 +138,11 @@ fn leave_all<L: Link + Drop>(lines: &mut [Connection<HeldBack<L>>], pressed: boo
 
 /// Chooses who is left unread.
 fn choose<L: Link + Drop, K: Keep>(
-    lines: &mut Vec<Connection<HeldBack<L>>>,
+    lines: &mut Connections<HeldBack<L>>,
     engine: &Engine<K>,
     moment: u64,
 )
-    ensures same { lines.new.items ≡ lines.old.items }
-    ensures room { vec_capacity lines.new ≡ vec_capacity lines.old }
+    ensures same { lines.new ≡ lines.old }
 {
     let pressed = look_all(lines, engine, moment);
     leave_all(lines, pressed, moment);

@@ -1,11 +1,11 @@
 //! The turn of one connection (MQTT 5.0, 4.2).
-ghost use Rattle.std.specs.Prelude.{◌≡◌, ◌≢◌, ◌≤◌, ◌<◌, length, take, OnOk, IfOk, IfErr, IsTrue};
+ghost use Rattle.std.specs.Prelude.{◌≡◌, ◌≢◌, ◌≤◌, ◌<◌, length, OnOk, IfOk, IfErr, IsTrue};
 ghost use Rattle.mqtt_serve.specs.turns.Breaks.{BreaksLine};
-ghost use Rattle.mqtt_serve.specs.turns.Turns.{server, HasItsTurn, MayRest, ReadsAt, WritesAt, ServesLine};
+ghost use Rattle.mqtt_serve.specs.turns.Turns.{server, HasItsTurn, MayRest, ServesLine};
 
 use crate::journal::Journal;
 use crate::turns::asking::{number_at, pump_at, report_at};
-use crate::turns::connection::Connection;
+use crate::turns::connections::Connections;
 use crate::turns::giving::give_at;
 use crate::turns::turn::{Pace, READ_LIMIT};
 use mqtt_broker::Engine;
@@ -14,7 +14,7 @@ use mqtt_keep::Keep;
 use mqtt_link::Link;
 
 /// The connection at a place is passed over, if it may be. Whether it is.
-fn pass_over<L: Link>(link: &L, lines: &mut [Connection<L>], place: usize, pace: Pace) -> bool
+fn pass_over<L: Link>(link: &L, lines: &mut Connections<L>, place: usize, pace: Pace) -> bool
     requires place { place < length lines.old }
     ensures brisk { IsTrue result → pace ≡ Pace.Brisk }
     ensures rests { IsTrue result → MayRest place lines.old }
@@ -22,41 +22,15 @@ fn pass_over<L: Link>(link: &L, lines: &mut [Connection<L>], place: usize, pace:
 {
     match pace {
         Pace::Full => false,
-        Pace::Brisk => lines[place].rest(link),
+        Pace::Brisk => lines.all[place].rest(link),
     }
-}
-
-/// The connection at a place is read once: how many bytes came.
-fn read_at<L: Link>(
-    link: &mut L,
-    lines: &mut [Connection<L>],
-    place: usize,
-    buffer: &mut [u8],
-) -> usize
-    requires place { place < length lines.old }
-    ensures bound { result ≤ length buffer.new }
-    ensures reads { ReadsAt place (length buffer.new) (take result buffer.new) lines.old lines.new }
-    ensures len { length lines.new ≡ length lines.old }
-    ensures same { L.calls link.new ≡ L.calls link.old }
-{
-    lines[place].read(link, buffer)
-}
-
-/// What waits on the connection at a place is written once: whether bytes went out.
-fn write_at<L: Link>(link: &mut L, lines: &mut [Connection<L>], place: usize) -> bool
-    requires place { place < length lines.old }
-    ensures writes { WritesAt place result lines.old lines.new }
-    ensures len { length lines.new ≡ length lines.old }
-    ensures same { L.calls link.new ≡ L.calls link.old }
-{
-    lines[place].write(link)
 }
 
 /// The turn of the connection at a place: it is read once, the broker is given what came, and sends; what waits is
 /// written once; and if it is lost the broker is told. Whether bytes went in or out.
 fn serve_line<L: Link, K: Keep, J: Journal>(
     link: &mut L,
-    lines: &mut [Connection<L>],
+    lines: &mut Connections<L>,
     engine: &mut Engine<K>,
     place: usize,
     moment: u64,
@@ -73,7 +47,7 @@ fn serve_line<L: Link, K: Keep, J: Journal>(
         (server engine.old lines.old) (server engine.new lines.new)) }
 {
     let number = number_at(lines, place);
-    let count = read_at(link, lines, place, buffer);
+    let count = lines.read_at(link, place, buffer);
     give_at(
         lines,
         engine,
@@ -84,7 +58,7 @@ fn serve_line<L: Link, K: Keep, J: Journal>(
         journal,
     )?;
     pump_at(lines, engine, place, number, moment, journal)?;
-    let wrote = write_at(link, lines, place);
+    let wrote = lines.write_at(link, place);
     report_at(lines, engine, place, number, moment, journal)?;
     Ok(wrote | (count > 0))
 }
@@ -92,7 +66,7 @@ fn serve_line<L: Link, K: Keep, J: Journal>(
 /// The connection at a place has its turn, or is passed over, if it may be in a turn of this pace. Whether bytes went in or out.
 pub(crate) fn serve_at<L: Link, K: Keep, J: Journal>(
     link: &mut L,
-    lines: &mut [Connection<L>],
+    lines: &mut Connections<L>,
     engine: &mut Engine<K>,
     place: usize,
     pace: Pace,

@@ -6,6 +6,7 @@ ghost use Rattle.mqtt_serve.specs.turns.Settled.{CanWait, IsAtOnce};
 ghost use Rattle.mqtt_serve.specs.turns.Turns.{hosting, rested, RunsFor};
 
 use crate::turns::connection::Connection;
+use crate::turns::connections::Connections;
 use crate::turns::turn::{Links, serve_turn};
 use mqtt_broker::Engine;
 use mqtt_broker_step::EngineError;
@@ -22,11 +23,23 @@ pub trait Timer {
         ensures { told self.new ≡ and_then (told self.old) (result ∷ []) };
 }
 
+/// Whether something is to go out on a connection that was not tried to be written yet.
+fn has_new<L: Link>(lines: &Connections<L>) -> bool {
+    let mut from = 0;
+    while let Some(place) = lines.next_awake(from) {
+        if lines.at(place).has_new() {
+            return true;
+        }
+        from = lines.behind(place);
+    }
+    false
+}
+
 /// What a connection is told by the clock, or by one that had its turn behind it, is not to wait for the next wait to end.
 fn hurry<L: Link + Drop>(links: &mut Links<L>)
     ensures { links.new ≡ links.old }
 {
-    if links.lines.iter().any(|line| line.has_new()) {
+    if has_new(&links.lines) {
         links.link.hurry();
     }
 }
@@ -52,13 +65,15 @@ impl<L: Link + Drop> Connection<HeldBack<L>> {
 }
 
 /// Whether something is to be done on a connection before the link waits, behind a stretch that was busy.
-fn is_any_awake<L: Link + Drop>(link: &HeldBack<L>, lines: &[Connection<HeldBack<L>>]) -> bool
+fn is_any_awake<L: Link + Drop>(link: &HeldBack<L>, lines: &Connections<HeldBack<L>>) -> bool
     ensures { result ≡ false → All CanWait lines.now }
 {
-    for line in lines {
-        if line.is_awake(link) {
+    let mut from = 0;
+    while let Some(place) = lines.next_awake(from) {
+        if lines.at(place).is_awake(link) {
             return true;
         }
+        from = lines.behind(place);
     }
     false
 }

@@ -1,18 +1,15 @@
 //! Turns of the server whose steps are stored together, before anything of them goes out (MQTT 5.0, 4.1, 4.2).
 ghost use Rattle.std.specs.Prelude.{◌≡◌, ◌≢◌, ◌≤◌, ◌<◌, true, length, IfOk, IfErr, IsTrue, OnOk};
-ghost use Rattle.std.specs.Vec.{vec_capacity};
 ghost use Rattle.mqtt_serve.specs.turns.Breaks.{BreaksOff};
-ghost use Rattle.mqtt_serve.specs.turns.Related.{RelatedAt};
 ghost use Rattle.mqtt_serve.specs.turns.Settled.{IsStoredOrPutOff, LetsGoBelow, RunsSettledFor, RunsSettledUntil, RunsStretch, RunsStretchUntil, RunsTogether, RunsTogetherUntil, ServedTurn, StoresNothing};
 ghost use Rattle.mqtt_serve.specs.turns.Turns.{server, hosting, pace_of};
-ghost use Rattle.mqtt_serve.specs.turns.Wires.{LetsGo};
 
 use crate::journal::Journal;
 use crate::turns::accepting::accept;
-use crate::turns::connection::Connection;
+use crate::turns::connections::Connections;
 use crate::turns::holding::hold;
 use crate::turns::running::{Timer, rest_behind};
-use crate::turns::turn::{FULL_TURN_EVERY, Links, Pace, drop_closed, serve_all};
+use crate::turns::turn::{FULL_TURN_EVERY, Links, Pace, serve_all};
 use mqtt_broker::Engine;
 use mqtt_broker_step::EngineError;
 use mqtt_keep::Settles;
@@ -33,29 +30,17 @@ pub struct Had {
     pub busy: bool,
 }
 
-/// What is held back on the connection at a place goes out. Whether bytes did.
-fn let_go_at<L: Link + Drop>(
-    link: &mut HeldBack<L>,
-    lines: &mut [Connection<HeldBack<L>>],
-    place: usize,
-) -> bool
-    requires place { place < length lines.old }
-    ensures lets { RelatedAt (LetsGo result) place lines.old lines.new }
-    ensures len { length lines.new ≡ length lines.old }
-    ensures same { L.calls link.new.link ≡ L.calls link.old.link }
-{
-    lines[place].let_go(link)
-}
-
 /// What is held back on each connection goes out, in order. Whether bytes did.
-fn let_go_all<L: Link + Drop>(link: &mut HeldBack<L>, lines: &mut [Connection<HeldBack<L>>]) -> bool
+fn let_go_all<L: Link + Drop>(link: &mut HeldBack<L>, lines: &mut Connections<HeldBack<L>>) -> bool
     ensures lets { LetsGoBelow (length lines.old) result lines.old lines.new }
     ensures len { length lines.new ≡ length lines.old }
     ensures same { L.calls link.new.link ≡ L.calls link.old.link }
 {
     let mut went = false;
-    for place in 0..lines.len() {
-        went |= let_go_at(link, lines, place);
+    let mut from = 0;
+    while let Some(place) = lines.next_awake(from) {
+        went |= lines.let_go_at(link, place);
+        from = lines.behind(place);
     }
     went
 }
@@ -64,20 +49,19 @@ fn let_go_all<L: Link + Drop>(link: &mut HeldBack<L>, lines: &mut [Connection<He
 /// want of memory nothing goes out, and nothing is dropped. Whether bytes went out. `Stopped` (2) is the engine's.
 fn store_turn<L: Link + Drop, K: Settles>(
     link: &mut HeldBack<L>,
-    lines: &mut Vec<Connection<HeldBack<L>>>,
+    lines: &mut Connections<HeldBack<L>>,
     engine: &mut Engine<K>,
 ) -> Result<bool, EngineError>
     ensures stores { IfOk result (λ went. IsStoredOrPutOff K.Keep went
-        (server engine.old lines.old.items) (server engine.new lines.new.items)) }
+        (server engine.old lines.old) (server engine.new lines.new)) }
     ensures breaks { IfErr result (λ error. StoresNothing K.Keep error
-        (server engine.old lines.old.items) (server engine.new lines.new.items)) }
+        (server engine.old lines.old) (server engine.new lines.new)) }
     ensures same { L.calls link.new.link ≡ L.calls link.old.link }
-    ensures room { vec_capacity lines.new ≡ vec_capacity lines.old }
 {
     match engine.settle() {
         Ok(()) => {
             let went = let_go_all(link, lines);
-            drop_closed(lines);
+            lines.drop_closed(link);
             Ok(went)
         }
         Err(EngineError::Memory) => Ok(false),
@@ -161,13 +145,16 @@ fn goes_on<L: Link + Drop>(links: &Links<L>, busy: bool, before: u32) -> bool
         return false;
     }
     let (mut one, mut two, mut more) = (false, false, false);
-    for line in links.lines.iter() {
+    let mut from = 0;
+    while let Some(place) = links.lines.next_awake(from) {
+        let line = links.lines.at(place);
         if !line.can_wait() {
             return false;
         }
         two |= one && line.has_moved();
         one |= line.has_moved();
         more |= line.has_more() || (before == 0 && line.has_new());
+        from = links.lines.behind(place);
     }
     more || (before == 0 && two)
 }

@@ -2,6 +2,7 @@
 ghost use Rattle.std.specs.Prelude.{◌≡◌, ◌<◌, length};
 
 use crate::turns::connection::Connection;
+use crate::turns::connections::Connections;
 use mqtt_broker::{Engine, Outcome};
 use mqtt_broker_step::EngineError;
 use mqtt_keep::Keep;
@@ -39,30 +40,33 @@ impl<L: Link> Connection<L> {
         self.is_stirred = is_stirred;
     }
 
-    /// The broker may have something to send on it if a copy entered its session's queue.
-    fn stir_if<K: Keep>(&mut self, engine: &Engine<K>, reports: &[Report])
+    /// The broker may have something to send on it if a copy entered its session's queue. Whether one did.
+    fn stir_if<K: Keep>(&mut self, engine: &Engine<K>, reports: &[Report]) -> bool
         ensures { self.new ≡ self.old }
     {
         if self.birth.is_none() {
             self.birth = session_on(engine, self.number);
         }
-        if self.birth.is_some() && has_entered(reports, self.birth) {
-            self.is_stirred = true;
-        }
+        let entered = self.birth.is_some() && has_entered(reports, self.birth);
+        self.is_stirred |= entered;
+        entered
     }
 }
 
 /// The broker may have something to send on the connection at a place, or has not.
-fn stir_at<L: Link>(lines: &mut [Connection<L>], place: usize, is_stirred: bool)
+fn stir_at<L: Link>(lines: &mut Connections<L>, place: usize, is_stirred: bool)
     requires place { place < length lines.old }
     ensures same { lines.new ≡ lines.old }
 {
-    lines[place].stir(is_stirred);
+    lines.all[place].stir(is_stirred);
+    if is_stirred {
+        lines.wake_at(place);
+    }
 }
 
 /// The connection at a place is stirred if a copy entered its session's queue.
 fn stir_if_at<L: Link, K: Keep>(
-    lines: &mut [Connection<L>],
+    lines: &mut Connections<L>,
     place: usize,
     engine: &Engine<K>,
     reports: &[Report],
@@ -70,11 +74,13 @@ fn stir_if_at<L: Link, K: Keep>(
     requires place { place < length lines.old }
     ensures same { lines.new ≡ lines.old }
 {
-    lines[place].stir_if(engine, reports);
+    if lines.all[place].stir_if(engine, reports) {
+        lines.wake_at(place);
+    }
 }
 
 /// Each connection is stirred to whose session's queue a copy came.
-fn stir_each<L: Link, K: Keep>(lines: &mut [Connection<L>], engine: &Engine<K>, reports: &[Report])
+fn stir_each<L: Link, K: Keep>(lines: &mut Connections<L>, engine: &Engine<K>, reports: &[Report])
     ensures same { lines.new ≡ lines.old }
 {
     for place in 0..lines.len() {
@@ -83,7 +89,7 @@ fn stir_each<L: Link, K: Keep>(lines: &mut [Connection<L>], engine: &Engine<K>, 
 }
 
 /// The broker may have something to send on each connection.
-fn stir_all<L: Link>(lines: &mut [Connection<L>])
+fn stir_all<L: Link>(lines: &mut Connections<L>)
     ensures same { lines.new ≡ lines.old }
 {
     for place in 0..lines.len() {
@@ -93,7 +99,7 @@ fn stir_all<L: Link>(lines: &mut [Connection<L>])
 
 /// Connections are stirred to whose sessions a copy came, by what the broker answered.
 pub(crate) fn stir_by<L: Link, K: Keep>(
-    lines: &mut [Connection<L>],
+    lines: &mut Connections<L>,
     engine: &Engine<K>,
     answer: &Result<Outcome, EngineError>,
 )
@@ -111,7 +117,7 @@ pub(crate) fn stir_by<L: Link, K: Keep>(
 
 /// After a turn of sending the broker has more to send on the connection at a place if it says so, or didn't answer.
 pub(crate) fn calm_by<L: Link>(
-    lines: &mut [Connection<L>],
+    lines: &mut Connections<L>,
     place: usize,
     answer: &Result<Outcome, EngineError>,
 )

@@ -1,18 +1,18 @@
 //! A turn of the server (MQTT 5.0, 4.2).
-ghost use Rattle.std.specs.Prelude.{◌≡◌, ◌≢◌, [], length, OnOk, IfOk, IfErr};
-ghost use Rattle.std.specs.Vec.{vec_capacity};
+ghost use Rattle.std.specs.Prelude.{◌≡◌, ◌≢◌, ◌≤◌, [], length, OnOk, IfOk, IfErr};
 ghost use Rattle.mqtt_link.specs.Links.{waited};
 ghost use Rattle.mqtt_serve.specs.turns.Breaks.{BreaksAll, BreaksBelow, BreaksOff, BreaksTicks};
 ghost use Rattle.mqtt_serve.specs.turns.Related.{Related};
+ghost use Rattle.mqtt_serve.specs.turns.Resting.{IsNextServed};
 ghost use Rattle.mqtt_serve.specs.turns.Wires.{WritesLast};
-ghost use Rattle.mqtt_serve.specs.turns.Turns.{server, hosting, without_closed, HasTurn, ServesAll, ServesBelow, Ticks};
+ghost use Rattle.mqtt_serve.specs.turns.Turns.{server, hosting, HasTurn, ServesAll, ServesBelow, Ticks};
 
 use crate::journal::{Journal, Quiet};
 use crate::turns::accepting::accept;
 use crate::turns::asking::tick;
 use crate::turns::connection::Connection;
+use crate::turns::connections::Connections;
 use crate::turns::line::serve_at;
-use mqtt_base::LINE_LIMIT;
 use mqtt_broker::Engine;
 use mqtt_broker_step::EngineError;
 use mqtt_keep::Keep;
@@ -43,23 +43,17 @@ pub enum Pace {
 pub struct Links<L: Link + Drop> {
     pub(crate) alloc: Global,
     pub(crate) link: L,
-    pub(crate) lines: Vec<Connection<L>>,
+    pub(crate) lines: Connections<L>,
     /// In which span of milliseconds the server last chose whom to leave unread.
     pub(crate) chosen: Option<u64>,
 }
 
 impl<L: Link + Drop> Model for Links<L> {
-    ghost use Rattle.std.specs.Prelude.{◌≤◌};
-    ghost use Rattle.std.specs.Vec.{vec_capacity};
-    ghost use Rattle.mqtt_base.specs.declared.limits.TheConstants.{LINE_LIMIT};
     ghost use Rattle.mqtt_serve.specs.turns.Turns.{Linked};
 
     ghost Value = { Linked };
 
-    ghost view = { λ l. record { calls = L.calls l.link; wires = l.lines.items } };
-
-    // There is room for as many as may be.
-    ghost invariant = { λ l. LINE_LIMIT ≤ vec_capacity l.lines };
+    ghost view = { λ l. record { calls = L.calls l.link; wires = l.lines } };
 }
 
 impl<L: Link + Drop> Links<L> {
@@ -68,7 +62,7 @@ impl<L: Link + Drop> Links<L> {
         ensures calls { IfOk result (λ links. links.calls ≡ L.calls link) }
         ensures wires { IfOk result (λ links. links.wires ≡ []) }
     {
-        let lines = Vec::with_capacity(alloc, LINE_LIMIT)?;
+        let lines = Connections::new(alloc)?;
         Ok(Links {
             alloc,
             link,
@@ -98,11 +92,23 @@ impl<L: Link + Drop> Links<L> {
     }
 }
 
+/// The next connection from a place on that has its turn: in a full turn the one there, in a brisk one the next that is awake.
+fn next_served<L: Link>(lines: &Connections<L>, pace: Pace, from: usize) -> Option<usize>
+    requires within { from ≤ length lines.now }
+    ensures { IsNextServed pace from lines.now result }
+{
+    match pace {
+        Pace::Full if from < lines.len() => Some(from),
+        Pace::Full => None,
+        Pace::Brisk => lines.next_awake(from),
+    }
+}
+
 /// Each connection has its turn, in order; in a brisk turn those are passed over for which nothing came about. Whether bytes went
 /// in or out.
 fn serve_lines<L: Link, K: Keep, J: Journal>(
     link: &mut L,
-    lines: &mut [Connection<L>],
+    lines: &mut Connections<L>,
     engine: &mut Engine<K>,
     pace: Pace,
     moment: u64,
@@ -117,7 +123,9 @@ fn serve_lines<L: Link, K: Keep, J: Journal>(
 {
     let mut buffer = [0_u8; READ_LIMIT];
     let mut busy = false;
-    for place in 0..lines.len() {
+    let mut from = 0;
+    lines.wake_told(link);
+    while let Some(place) = next_served(lines, pace, from) {
         busy |= serve_at(
             link,
             lines,
@@ -128,13 +136,14 @@ fn serve_lines<L: Link, K: Keep, J: Journal>(
             &mut buffer,
             journal,
         )?;
+        from = lines.behind(place);
     }
     Ok(busy)
 }
 
 /// Turns of the clock, while more may be due.
 fn tick_all<L: Link, K: Keep, J: Journal>(
-    lines: &mut [Connection<L>],
+    lines: &mut Connections<L>,
     engine: &mut Engine<K>,
     moment: u64,
     journal: &mut J,
@@ -154,28 +163,22 @@ fn tick_all<L: Link, K: Keep, J: Journal>(
 }
 
 /// What waits on connections that the broker closed is written once more.
-fn write_closed<L: Link>(link: &mut L, lines: &mut [Connection<L>])
+fn write_closed<L: Link>(link: &mut L, lines: &mut Connections<L>)
     ensures writes { Related (λ x y. WritesLast x.fate x y) lines.old lines.new }
     ensures same { L.calls link.new ≡ L.calls link.old }
 {
-    for line in lines.iter_mut() {
-        line.write_last(link);
+    let mut from = 0;
+    while let Some(place) = lines.next_awake(from) {
+        lines.write_last_at(link, place);
+        from = lines.behind(place);
     }
-}
-
-/// Connections that the broker closed are dropped.
-pub(crate) fn drop_closed<L: Link>(lines: &mut Vec<Connection<L>>)
-    ensures drops { lines.new.items ≡ without_closed lines.old.items }
-    ensures room { vec_capacity lines.new ≡ vec_capacity lines.old }
-{
-    lines.retain(|line| !line.is_closed());
 }
 
 /// Each connection has its turn, unless it is passed over, then the clock; what waits on connections that the broker closed is
 /// written once more. Whether bytes went in or out.
 pub(crate) fn serve_all<L: Link, K: Keep, J: Journal>(
     link: &mut L,
-    lines: &mut [Connection<L>],
+    lines: &mut Connections<L>,
     engine: &mut Engine<K>,
     pace: Pace,
     moment: u64,
@@ -211,6 +214,6 @@ pub fn serve_turn<L: Link + Drop, K: Keep>(
     let (alloc, link, lines) = (links.alloc, &mut links.link, &mut links.lines);
     let came = accept(alloc, link, lines, engine, moment, &mut Quiet);
     let moved = serve_all(link, lines, engine, Pace::Full, moment, &mut Quiet)?;
-    drop_closed(lines);
+    lines.drop_closed(link);
     Ok(came | moved)
 }

@@ -226,7 +226,15 @@ impl Link for Clients {
     }
 
     fn may_give(&self, peer: &Peer) -> bool {
-        match self.clients.get(peer.place) {
+        self.is_told(peer.place)
+    }
+
+    fn key(&self, peer: &Peer) -> usize {
+        peer.place
+    }
+
+    fn is_told(&self, key: usize) -> bool {
+        match self.clients.get(key) {
             Some(client) => self.fault.is_some() || client.has_something(),
             None => true,
         }

@@ -14,12 +14,12 @@ returns-clause-serves g c =
     record {
       number = c.number_at-number.result;
       bytes = take c.read_at-count.result c.read_at-count.new.buffer;
-      heard = c.read_at-count.new.lines;
+      heard = c.read_at-count.new.self;
       given = server c.give_at.new.engine c.give_at.new.lines;
       sent = server c.pump_at.new.engine c.pump_at.new.lines;
       wrote = c.write_at-wrote.result;
-      written = c.write_at-wrote.new.lines;
-      reads = record { is_its = search rules; within = within_room _ _ _ len; reads = subst (λ (n : ℕ). ReadsAt c.args.place n (take c.read_at-count.result c.read_at-count.new.buffer) c.args.lines.now c.read_at-count.new.lines) len c.read_at-count.ensures.reads };
+      written = c.write_at-wrote.new.self;
+      reads = record { is_its = search rules; within = within_room _ _ _ len; reads = subst (λ (n : ℕ). ReadsAt c.args.place n (take c.read_at-count.result c.read_at-count.new.buffer) c.args.lines.now c.read_at-count.new.self) len c.read_at-count.ensures.reads };
       gives = c.in_ok-give_at.ensures.gives;
       pumps = c.in_ok-pump_at.ensures.pumps;
       writes = c.write_at-wrote.ensures.writes;
@@ -34,8 +34,8 @@ returns-in_err-give_at-clause-breaks g c =
     rw is (inl (record {
       number = c.number_at-number.result;
       bytes = take c.read_at-count.result c.read_at-count.new.buffer;
-      heard = c.read_at-count.new.lines;
-      reads = record { is_its = search rules; within = within_room _ _ _ len; reads = subst (λ (n : ℕ). ReadsAt c.args.place n (take c.read_at-count.result c.read_at-count.new.buffer) c.args.lines.now c.read_at-count.new.lines) len c.read_at-count.ensures.reads };
+      heard = c.read_at-count.new.self;
+      reads = record { is_its = search rules; within = within_room _ _ _ len; reads = subst (λ (n : ℕ). ReadsAt c.args.place n (take c.read_at-count.result c.read_at-count.new.buffer) c.args.lines.now c.read_at-count.new.self) len c.read_at-count.ensures.reads };
       some = c.in_err-give_at.ensures.breaks.0;
       breaks = c.in_err-give_at.ensures.breaks.1;
     }))
@@ -47,9 +47,9 @@ returns-in_err-pump_at-clause-breaks g c =
     rw is (inr (inl (record {
       number = c.number_at-number.result;
       bytes = take c.read_at-count.result c.read_at-count.new.buffer;
-      heard = c.read_at-count.new.lines;
+      heard = c.read_at-count.new.self;
       given = server c.give_at.new.engine c.give_at.new.lines;
-      reads = record { is_its = search rules; within = within_room _ _ _ len; reads = subst (λ (n : ℕ). ReadsAt c.args.place n (take c.read_at-count.result c.read_at-count.new.buffer) c.args.lines.now c.read_at-count.new.lines) len c.read_at-count.ensures.reads };
+      reads = record { is_its = search rules; within = within_room _ _ _ len; reads = subst (λ (n : ℕ). ReadsAt c.args.place n (take c.read_at-count.result c.read_at-count.new.buffer) c.args.lines.now c.read_at-count.new.self) len c.read_at-count.ensures.reads };
       gives = c.in_ok-give_at.ensures.gives;
       may = c.in_err-pump_at.ensures.breaks.0;
       refused = c.in_err-pump_at.ensures.breaks.1;
@@ -62,12 +62,12 @@ returns-in_err-report_at-clause-breaks g c =
     rw is (inr (inr (record {
       number = c.number_at-number.result;
       bytes = take c.read_at-count.result c.read_at-count.new.buffer;
-      heard = c.read_at-count.new.lines;
+      heard = c.read_at-count.new.self;
       given = server c.give_at.new.engine c.give_at.new.lines;
       sent = server c.pump_at.new.engine c.pump_at.new.lines;
       wrote = c.write_at-wrote.result;
-      written = c.write_at-wrote.new.lines;
-      reads = record { is_its = search rules; within = within_room _ _ _ len; reads = subst (λ (n : ℕ). ReadsAt c.args.place n (take c.read_at-count.result c.read_at-count.new.buffer) c.args.lines.now c.read_at-count.new.lines) len c.read_at-count.ensures.reads };
+      written = c.write_at-wrote.new.self;
+      reads = record { is_its = search rules; within = within_room _ _ _ len; reads = subst (λ (n : ℕ). ReadsAt c.args.place n (take c.read_at-count.result c.read_at-count.new.buffer) c.args.lines.now c.read_at-count.new.self) len c.read_at-count.ensures.reads };
       gives = c.in_ok-give_at.ensures.gives;
       pumps = c.in_ok-pump_at.ensures.pumps;
       writes = c.write_at-wrote.ensures.writes;
