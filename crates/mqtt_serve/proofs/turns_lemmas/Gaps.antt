@@ -4,11 +4,11 @@ use Rattle.std.proofs.lemmas.Option.{slice_get-get_or}
 use Rattle.std.specs.Prelude.{slice_get}
 use Rattle.mqtt_serve.specs.declared.turns.connection.Fate.{Fate}
 use Rattle.mqtt_serve.specs.declared.turns.connection.Fate.TheVariants.{Stands, Lost, Closed}
-use Rattle.mqtt_serve.specs.turns.Related.{Related, RelatedAt, RelatedBelow}
+use Rattle.mqtt_serve.specs.turns.Related.{RelatedAt, RelatedBelow}
 use Rattle.mqtt_serve.specs.turns.Resting.{RestBetween, Rests}
 use Rattle.mqtt_serve.specs.turns.Settled.{CanWait, LetsGoBelow, one_after}
 use Rattle.mqtt_serve.specs.turns.Turns.{without_closed}
-use Rattle.mqtt_serve.specs.turns.Wires.{LetsGo, Wire, WritesLast, is_closed, is_lost, is_standing}
+use Rattle.mqtt_serve.specs.turns.Wires.{LetsGo, Wire, is_closed, is_lost, is_standing}
 use Rattle.mqtt_serve.proofs.turns_lemmas.Noted.{one_there}
 
 -- ---- what one that rests is
@@ -18,16 +18,13 @@ sends_stands Stands clear sends = refl
 sends_stands Lost clear sends = absurd cc
 sends_stands Closed clear sends = absurd cc
 
+-- the broker has not closed it
 pub rests_open : (w : Wire) → Rests w → is_closed w.fate ≡ false
 rests_open w rests = ap is_closed (sends_stands w.fate w.clear rests.may_send)
 
 -- the link may wait for it
 pub rests_waits : (w : Wire) → Rests w → CanWait w
 rests_waits w rests = record { not_lost = ap is_lost (sends_stands w.fate w.clear rests.may_send); nothing_waits = λ sends. rests.nothing_waits }
-
--- it is not written to once more
-pub rests_last : (w : Wire) → Rests w → WritesLast w.fate w w
-rests_last w rests = subst (λ f. WritesLast f w w) (sym (sends_stands w.fate w.clear rests.may_send)) refl
 
 below_or_not : (k n : ℕ) → (k < n) ⊎ (n ≤ k)
 below_or_not k n = grind (arith)
@@ -68,25 +65,10 @@ none_dropped (w ∷ ws) each =
     ap (λ b. cond (not b) (w ∷ without_closed ws) (without_closed ws)) (each 0 w (omega arith) refl)
     ∙ ap (λ xs. w ∷ xs) (none_dropped ws (λ k x less is. each (suc k) x (omega (arith, less)) is))
 
--- ---- connections one after the other, of which some are passed over
+-- ---- connections that change one after the other
 
 module _ (R : Wire → Wire → Type 0) where
-  pub below_none : (xs : List Wire) → RelatedBelow R 0 xs xs
-  below_none xs = record { len = refl; below = λ k x y less is_x is_y. absurd (omega (arith, less)); above = λ k high. refl }
-
-  -- those up to a place stay as they are
-  pub below_gap : (n m : ℕ) (xs ys : List Wire) → RelatedBelow R n xs ys → ((k : ℕ) (w : Wire) → n ≤ k → k < m → slice_get ys k ≡ Some w → R w w)
-      → n ≤ m → RelatedBelow R m xs ys
-  below_gap n m xs ys r rest ordered = record {
-    len = r.len;
-    below = λ k x y less is_x is_y. elim (below_or_not k n) [
-      | inl low ↦ r.below k x y low is_x is_y
-      | inr high ↦ subst (R x) (one_there x y (slice_get ys k) (r.above k high ∙ is_x) is_y) (rest k x high less (r.above k high ∙ is_x))
-    ];
-    above = λ k high. r.above k (omega (arith, high, ordered));
-  }
-
-  -- and the one there changes
+  -- one more changes, the one at the next place
   pub below_at : (n : ℕ) (xs ys zs : List Wire) → RelatedBelow R n xs ys → RelatedAt R n ys zs → RelatedBelow R (n + 1) xs zs
   below_at n xs ys zs r at = record {
     len = r.len ∙ at.len;
@@ -96,10 +78,6 @@ module _ (R : Wire → Wire → Type 0) where
     ];
     above = λ k high. at.elsewhere k (omega (arith, high)) ∙ r.above k (omega (arith, high));
   }
-
-  -- so each of them
-  pub below_all : (n : ℕ) (xs ys : List Wire) → n ≡ length xs → RelatedBelow R n xs ys → Related R xs ys
-  below_all n xs ys all r = subst (λ m. RelatedBelow R m xs ys) all r
 
 -- ---- what is held back goes out
 

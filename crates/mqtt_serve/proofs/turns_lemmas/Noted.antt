@@ -17,28 +17,29 @@ apart k place = grind (arith)
 -- ---- a list of which one member is another
 
 module _ {A : Type 0} where
-  pub set_here : (xs : List A) (place : ℕ) (x : A) → place < length xs → slice_get (slice_set xs place x) place ≡ Some x
+  set_here : (xs : List A) (place : ℕ) (x : A) → place < length xs → slice_get (slice_set xs place x) place ≡ Some x
   set_here [] place x less = absurd (omega (arith, less))
   set_here (y ∷ xs) zero x less = refl
   set_here (y ∷ xs) (suc place) x less = set_here xs place x (omega (arith, less))
 
-  pub set_else : (xs : List A) (place k : ℕ) (x : A) → k ≢ place → slice_get (slice_set xs place x) k ≡ slice_get xs k
+  set_else : (xs : List A) (place k : ℕ) (x : A) → k ≢ place → slice_get (slice_set xs place x) k ≡ slice_get xs k
   set_else [] place k x apart = refl
   set_else (y ∷ xs) zero zero x apart = absurd (apart refl)
   set_else (y ∷ xs) zero (suc k) x apart = refl
   set_else (y ∷ xs) (suc place) zero x apart = refl
   set_else (y ∷ xs) (suc place) (suc k) x apart = set_else xs place k x (λ same. apart (ap suc same))
 
-  pub set_len : (xs : List A) (place : ℕ) (x : A) → length (slice_set xs place x) ≡ length xs
+  set_len : (xs : List A) (place : ℕ) (x : A) → length (slice_set xs place x) ≡ length xs
   set_len [] place x = refl
   set_len (y ∷ xs) zero x = refl
   set_len (y ∷ xs) (suc place) x = ap suc (set_len xs place x)
 
+  -- what is there is one
   pub one_there : (x y : A) (o : Option A) → o ≡ Some x → o ≡ Some y → x ≡ y
   one_there x y None e is = absurd cc
   one_there x y (Some z) e is = let first : z ≡ x = cc in let second : z ≡ y = cc in sym first ∙ second
 
-  pub within : (k : ℕ) (x : A) (xs : List A) → slice_get xs k ≡ Some x → k < length xs
+  within : (k : ℕ) (x : A) (xs : List A) → slice_get xs k ≡ Some x → k < length xs
   within k x [] is = absurd cc
   within zero x (y ∷ xs) is = omega arith
   within (suc k) x (y ∷ xs) is = let less = within k x xs is in omega (arith, less)
@@ -47,17 +48,17 @@ module _ {A : Type 0} where
   pub read_there : (xs : List A) (place : ℕ) (x : A) → place < length xs → x ≡ get_or xs place x → slice_get xs place ≡ Some x
   read_there xs place x less is = slice_get_read xs (length xs) place x refl less is
 
-  pub push_before : (xs zs : List A) (k : ℕ) (y : A) → slice_get xs k ≡ Some y → slice_get (xs ++ zs) k ≡ Some y
+  push_before : (xs zs : List A) (k : ℕ) (y : A) → slice_get xs k ≡ Some y → slice_get (xs ++ zs) k ≡ Some y
   push_before [] zs k y is = absurd cc
   push_before (x ∷ xs) zs zero y is = is
   push_before (x ∷ xs) zs (suc k) y is = push_before xs zs k y is
 
-  pub push_last : (xs : List A) (x : A) → slice_get (xs ++ x ∷ []) (length xs) ≡ Some x
+  push_last : (xs : List A) (x : A) → slice_get (xs ++ x ∷ []) (length xs) ≡ Some x
   push_last [] x = refl
   push_last (y ∷ xs) x = push_last xs x
 
   -- one that is there was there, or is the last
-  pub pushed : (xs : List A) (x : A) (k : ℕ) (y : A) → slice_get (xs ++ x ∷ []) k ≡ Some y → (slice_get xs k ≡ Some y) ⊎ ((k ≡ length xs) × (x ≡ y))
+  pushed : (xs : List A) (x : A) (k : ℕ) (y : A) → slice_get (xs ++ x ∷ []) k ≡ Some y → (slice_get xs k ≡ Some y) ⊎ ((k ≡ length xs) × (x ≡ y))
   pushed [] x zero y is = inr (refl, cc)
   pushed [] x (suc k) y is = absurd cc
   pushed (z ∷ xs) x zero y is = inl is
@@ -66,7 +67,7 @@ module _ {A : Type 0} where
     | inr last ↦ inr (ap suc last.0, last.1)
   ]
 
-  pub push_len : (xs : List A) (x : A) → length (xs ++ x ∷ []) ≡ length xs + 1
+  push_len : (xs : List A) (x : A) → length (xs ++ x ∷ []) ≡ length xs + 1
   push_len [] x = omega arith
   push_len (y ∷ xs) x = let less = push_len xs x in omega (arith, less)
 
@@ -292,10 +293,12 @@ pub record NotedBelow (n : ℕ) (numbers awake : List ℕ) (ws : List Wire) : Ty
   pub numbered : (k : ℕ) (w : Wire) → k < n → slice_get ws k ≡ Some w → slice_get numbers k ≡ Some w.number
   pub waking : (k : ℕ) → k < n → k < length ws → Passes (is_byte AWAKE) awake k
 
+-- before the first is noted none is
 pub none_noted : (numbers awake : List ℕ) (ws : List Wire) → length numbers ≡ length ws → length awake ≡ length ws → NotedBelow 0 numbers awake ws
 none_noted numbers awake ws many many_too =
     record { as_many = (many, many_too); numbered = λ k w less here. absurd (omega (arith, less)); waking = λ k less within. absurd (omega (arith, less)) }
 
+-- one more is noted, as awake
 pub one_noted : (n : ℕ) (numbers awake : List ℕ) (ws : List Wire) (number : ℕ) (w : Wire) → slice_get ws n ≡ Some w → number ≡ w.number
     → NotedBelow n numbers awake ws → NotedBelow (n + 1) (slice_set numbers n number) (slice_set awake n AWAKE) ws
 one_noted n numbers awake ws number w here its noted = record {
